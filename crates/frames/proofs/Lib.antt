@@ -1,0 +1,4 @@
+pub mod Parts
+pub mod Chains
+pub mod Loops
+pub mod Found

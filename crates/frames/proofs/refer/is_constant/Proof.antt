@@ -1,0 +1,18 @@
+use Rattle.frames.specs.Logic.{equal}
+use Rattle.frames.specs.Table.{constant}
+use borrow.Author.Needs.{needs}
+use Rattle.frames.proofs.refer.is_constant.Statement.{statement}
+use Rattle.frames.proofs.refer.is_constant.Tie as tie
+use Rattle.frames.proofs.refer.is_constant.Reads as reads
+use Rattle.frames.proofs.refer.is_constant.Lts as lts
+use Rattle.frames.proofs.refer.class_of.Reads as class-of-reads
+
+class-of-requires : tie.Need-class-of-requires
+class-of-requires c κs = search needs
+
+returns : tie.Need-returns
+unfolding constant equal
+returns c = cc
+
+pub is-constant-spec : {M : Type 1} → statement M
+is-constant-spec = tie.close (tie.spec class-of-requires returns)

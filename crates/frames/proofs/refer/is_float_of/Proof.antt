@@ -1,0 +1,32 @@
+use Rattle.frames.proofs.Chains.{both-first, both-second, equal-eqb, equal-no, equal-yes}
+use Rattle.frames.specs.Table.{floats}
+use borrow.Author.Needs.{needs}
+use mathlib.Core.Path.{_∙_, refl}
+use Rattle.frames.proofs.refer.is_float_of.Statement.{statement}
+use Rattle.frames.proofs.refer.is_float_of.Tie as tie
+use Rattle.frames.proofs.refer.is_float_of.Reads as reads
+use Rattle.frames.proofs.refer.is_float_of.Lts as lts
+use Rattle.frames.proofs.record.kind_at.Reads as kind-at-reads
+use Rattle.frames.proofs.refer.entry.Reads as entry-reads
+use Rattle.frames.proofs.refer.float_variable.Reads as float-variable-reads
+
+entry-requires : tie.Need-entry-requires
+entry-requires c κs = search needs
+
+kind-at-requires : tie.Need-kind-at-requires
+kind-at-requires c κs = search needs
+
+returns : tie.Need-returns
+unfolding floats
+returns c = both-first _ (equal-no (λ e. c .if1 .taken (cc))) refl
+
+float-variable-requires : tie.Need-float-variable-requires
+float-variable-requires c κs = search needs
+
+returns-2 : tie.Need-returns-2
+unfolding floats
+returns-2 c = both-second (equal-yes (cc)) (equal-eqb (c .before .float-variable .result .0) (c .before .before .before .before .before .before .before .args .v .0) ∙ (cc))
+
+pub is-float-of-spec : {M : Type 1} → statement M
+is-float-of-spec =
+    tie.close (tie.spec entry-requires kind-at-requires returns float-variable-requires returns-2)

@@ -1,0 +1,57 @@
+use Prim.Native.Nat.{_-_, _≤_}
+use Rattle.frames.proofs.Loops.{AllSoFar, all-done, all-more, all-none, all-stop, here-list}
+use Rattle.frames.specs.Table.{nameByte}
+use borrow.Author.Needs.{needs}
+use borrow.Author.Tests.{not-false, not-true}
+use lib.ListN.{length}
+use native.Mathlib.Omega.{arith}
+use Rattle.frames.proofs.text.all_name_bytes.Statement.{statement}
+use Rattle.frames.proofs.text.all_name_bytes.Tie as tie
+use Rattle.frames.proofs.text.all_name_bytes.Reads as reads
+use Rattle.frames.proofs.text.all_name_bytes.Lts as lts
+use Rattle.frames.proofs.text.name_byte.Reads as name-byte-reads
+
+abbrev Inv-loop : tie.InvT-loop
+Inv-loop name i₀ i = (i ≤ length name) × AllSoFar nameByte name i
+
+abbrev μ-loop : tie.MeasureT-loop
+μ-loop name i₀ i = length name - i
+
+loop-holds : tie.Need-loop-holds Inv-loop μ-loop
+loop-holds c = (search needs, all-none nameByte (c .before .args .name .now))
+
+shared-slice-read-name-byte : tie.Need-shared-slice-read-name-byte Inv-loop μ-loop
+shared-slice-read-name-byte c = omega arith
+
+name-byte-requires : tie.Need-name-byte-requires Inv-loop μ-loop
+name-byte-requires c κs = search needs
+
+returns : tie.Need-returns Inv-loop μ-loop
+returns c = all-stop (c .before .before .before .before .loop .inv .1) (here-list (c .before .before .before .before .before .before .args .name .now) (c .before .before .before .before .loop .i) 0 (omega arith)) (cc (not-true (c .before .name-byte .result) (c .if1 .taken)))
+
+add-i : tie.Need-add-i Inv-loop μ-loop
+add-i c = omega arith
+
+loop-less : tie.Need-loop-less Inv-loop μ-loop
+loop-less c = omega arith
+
+loop-again : tie.Need-loop-again Inv-loop μ-loop
+loop-again c = (omega arith, all-more (c .before .before .before .before .loop .inv .1) (here-list (c .before .before .before .before .before .before .args .name .now) (c .before .before .before .before .loop .i) 0 (omega arith)) (cc (not-false (c .before .name-byte .result) (c .if1 .left))))
+
+returns-2 : tie.Need-returns-2 Inv-loop μ-loop
+returns-2 c = all-done (c .before .loop .inv .1) (omega arith)
+
+pub all-name-bytes-spec : {M : Type 1} → statement M
+all-name-bytes-spec =
+    tie.close
+    (tie.spec
+    Inv-loop
+    μ-loop
+    loop-holds
+    shared-slice-read-name-byte
+    name-byte-requires
+    returns
+    add-i
+    loop-less
+    loop-again
+    returns-2)

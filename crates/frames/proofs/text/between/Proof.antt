@@ -1,0 +1,17 @@
+use Rattle.frames.specs.Logic.{atMost}
+use borrow.Author.Needs.{needs}
+use Rattle.frames.proofs.text.between.Statement.{statement}
+use Rattle.frames.proofs.text.between.Tie as tie
+use Rattle.frames.proofs.text.between.Reads as reads
+use Rattle.frames.proofs.text.between.Lts as lts
+use Rattle.frames.proofs.logic.both.Reads as both-reads
+
+both-requires : tie.Need-both-requires
+both-requires c κs = search needs
+
+returns : tie.Need-returns
+unfolding atMost
+returns c = cc
+
+pub between-spec : {M : Type 1} → statement M
+between-spec = tie.close (tie.spec both-requires returns)

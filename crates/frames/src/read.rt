@@ -1,0 +1,47 @@
+// Total readers of the file's bytes: a byte past the end reads as 0.
+ghost use mathlib.Core.Path.{_≡_};
+ghost use Prim.Native.Nat.{_<_, _^_, _+_};
+ghost use lib.ListN.{take, drop};
+ghost use Rattle.frames.specs.Layout.{byte, u16, u32};
+
+fn wide(b: u8) -> usize
+    ensures { λ r. ⌜ (r ≡ b) × (r < 256) ⌝ }
+{
+    b as usize
+}
+
+pub fn byte_at(file: &[u8], i: usize) -> usize
+    ensures { λ r. ⌜ (r ≡ byte (now (file .entry)) i) × (r < 256) ⌝ }
+{
+    if i < file.len() { wide(file[i]) } else { 0 }
+}
+
+pub fn u16_at(file: &[u8], i: usize) -> usize
+    requires { ⌜ i < 2 ^ 61 ⌝ }
+    ensures { λ r. ⌜ (r ≡ u16 (now (file .entry)) i) × (r < 65536) ⌝ }
+{
+    byte_at(file, i) + 256 * byte_at(file, i + 1)
+}
+
+pub fn u32_at(file: &[u8], i: usize) -> usize
+    requires { ⌜ i < 2 ^ 60 ⌝ }
+    ensures { λ r. ⌜ (r ≡ u32 (now (file .entry)) i) × (r < 4294967296) ⌝ }
+{
+    u16_at(file, i) + 65536 * u16_at(file, i + 2)
+}
+
+// The bytes from `from` on, at most `size` of them, as a part of the file.
+pub fn part(file: &[u8], from: usize, size: usize) -> &[u8]
+    ensures { λ r. ⌜ now r ≡ take size (drop from (now (file .entry))) ⌝ }
+{
+    if from <= file.len() {
+        let left = file.len() - from;
+        if size <= left {
+            let end = from + size;
+            return &file[from..end];
+        }
+        return &file[from..];
+    }
+    let end = file.len();
+    &file[end..]
+}
