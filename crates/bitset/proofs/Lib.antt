@@ -1,0 +1,4 @@
+-- The laws of `bitset`, over lists of words of any length.
+pub mod Bits
+pub mod Laws
+pub mod Listed

@@ -1,0 +1,2 @@
+-- The definitions that the contracts of `bitset` cite.
+pub mod Sets
