@@ -11,6 +11,8 @@ use lib.Bits.{bitOr, or-zero-r, or-lt}
 use lib.Pow.{pow-lt}
 use lib.ListN.{length, getD, set, replicate, length-set, length-replicate, List·getD-eq-default}
 use lib.Seq.{set-out, getD-set-same, getD-set-other, ext-getD}
+use mir.Syntax.{w64}
+use mir.Val.{Fits}
 use borrow.Author.Tests.{eq-eqb, ne-eqb}
 use Rattle.bitset.specs.Sets.{bit, member, size, empty, insert, union, Words}
 use Rattle.bitset.proofs.Bits.{zero-bit, power-bit, or-bit, same-bits}
@@ -101,11 +103,17 @@ unfolding member
 union-member a b m =
     ap (λ (w : ℕ). bit w (m % 64)) (union-at a b (m / 64)) ∙ or-bit (getD a (m / 64) 0) (getD b (m / 64) 0) (m % 64)
 
-union-length : (a b : List ℕ) → length a ≡ length b → length (union a b) ≡ length a
+-- a union of two sets of one size has that size
+pub union-length : (a b : List ℕ) → length a ≡ length b → length (union a b) ≡ length a
 unfolding union
 union-length [] b h = sym h
 union-length (x ∷ a) [] h = refl
 union-length (x ∷ a) (y ∷ b) h = ap suc (union-length a b (omega arith))
+
+-- the words of an array of k elements of 64 bits
+pub array-words : (k : ℕ) (ws : List ℕ) → length ws ≡ k → ((i : ℕ) → Fits w64 (getD ws i 0)) → Words (64 * k) ws
+unfolding size
+array-words k ws h f = record { sized = ap (λ (n : ℕ). 64 * n) h; small = λ i. f i .fits }
 
 -- the words of an empty set
 pub empty-words : (k : ℕ) → Words (64 * k) (empty k)

@@ -1,0 +1,138 @@
+-- The list of a set's members: it rises, each member stands in it once and nothing else does, and one step of it.
+-- All by induction on how many numbers are left to look at.
+use mathlib.Core.Path.{_≡_, refl, sym, ap, _∙_}
+use mathlib.Core.Logic.{_≢_}
+use mathlib.Core.Bool.{Bool, true, false}
+use mathlib.Core.List.{List, [], _∷_}
+use Prim.Native.Nat.{ℕ, zero, suc, _+_, _-_, _*_, _/_, _%_, _^_, _≤_, _<_}
+use native.Mathlib.Omega.{arith}
+use native.Mathlib.Decide.{ℕ-discrete, decLt}
+use lib.Dec.{eqb, lit<}
+use lib.ListN.{length, getD}
+use borrow.Author.Tests.{eq-eqb, ne-eqb}
+use Rattle.bitset.specs.Sets.{bit, member, size, Words, pick, membersFrom, members, isNil, times, Rising, none, next}
+use Rattle.bitset.proofs.Bits.{zero-bit, same-bits}
+use Rattle.bitset.proofs.Laws.{past-size, word-bit}
+
+-- one step of the list
+pub from-step : (ws : List ℕ) (i : ℕ) → i < size ws
+    → membersFrom ws (size ws - i) i
+    ≡ pick (member ws i) (i ∷ membersFrom ws (size ws - (i + 1)) (i + 1)) (membersFrom ws (size ws - (i + 1)) (i + 1))
+unfolding membersFrom
+from-step ws i h = let g : size ws - i ≡ suc (size ws - (i + 1)) = omega arith in rw g
+
+-- past the size nothing is left
+pub from-end : (ws : List ℕ) (i : ℕ) → size ws ≤ i → membersFrom ws (size ws - i) i ≡ []
+unfolding membersFrom
+from-end ws i h = let g : size ws - i ≡ 0 = omega arith in rw g
+
+-- a list that rises from a number rises from each below it
+rising-lower : {n m : ℕ} {xs : List ℕ} → n ≤ m → Rising m xs → Rising n xs
+rising-lower h none = none
+rising-lower {n} h (next {x = x} l r) = let k : n ≤ x = omega arith in next k r
+
+-- the list rises, with its first number or without
+rising-pick : (b : Bool) (n : ℕ) (xs : List ℕ) → Rising (n + 1) xs → Rising n (pick b (n ∷ xs) xs)
+unfolding pick
+rising-pick true n xs r = let k : n ≤ n = omega arith in next k r
+rising-pick false n xs r = rising-lower (omega arith) r
+
+-- the members from any number on rise
+from-rising : (ws : List ℕ) (k n : ℕ) → Rising n (membersFrom ws k n)
+unfolding membersFrom
+from-rising ws zero n = none
+from-rising ws (suc k) n = rising-pick (member ws n) n (membersFrom ws k (n + 1)) (from-rising ws k (n + 1))
+
+-- the members rise
+pub members-rising : (ws : List ℕ) → Rising 0 (members ws)
+unfolding members
+members-rising ws = from-rising ws (size ws) 0
+
+-- what is below all of a list does not stand in it
+times-below : {n : ℕ} {xs : List ℕ} (m : ℕ) → m < n → Rising n xs → times m xs ≡ 0
+unfolding times pick
+times-below m h none = refl
+times-below m h (next {x = x} {xs = xs} l r) =
+    ap (λ (b : Bool). pick b (suc (times m xs)) (times m xs)) (ne-eqb x m (omega arith)) ∙ times-below m (omega arith) r
+
+-- a number before others that it is not among stands there once, if at all
+times-first : (b : Bool) (n : ℕ) (xs : List ℕ) → times n xs ≡ 0 → times n (pick b (n ∷ xs) xs) ≡ pick b 1 0
+unfolding times pick
+times-first true n xs h =
+    ap (λ (b : Bool). pick b (suc (times n xs)) (times n xs)) (eq-eqb n n refl) ∙ ap suc h
+times-first false n xs h = h
+
+-- another number's place says nothing of this one
+times-other : (b : Bool) (n m : ℕ) (xs : List ℕ) → m ≢ n → times m (pick b (n ∷ xs) xs) ≡ times m xs
+unfolding times pick
+times-other true n m xs f = ap (λ (b : Bool). pick b (suc (times m xs)) (times m xs)) (ne-eqb n m (λ q. f (sym q)))
+times-other false n m xs f = refl
+
+-- among the numbers looked at, and where no other is a member
+from-times : (ws : List ℕ) (k n m : ℕ) → n ≤ m → (n + k ≤ m → member ws m ≡ false) → times m (membersFrom ws k n) ≡ pick (member ws m) 1 0
+unfolding membersFrom times pick
+from-times ws zero n m h f = sym (ap (λ (b : Bool). pick b 1 0) (f (omega arith)))
+from-times ws (suc k) n m h f = go (ℕ-discrete m n) (λ l. from-times ws k (n + 1) m l (λ q. f (omega arith)))
+  where
+    xs : List ℕ
+    xs = membersFrom ws k (n + 1)
+    go : Dec (m ≡ n) → (n + 1 ≤ m → times m xs ≡ pick (member ws m) 1 0) → times m (pick (member ws n) (n ∷ xs) xs) ≡ pick (member ws m) 1 0
+    go (yes e) r =
+        ap (λ (j : ℕ). times j (pick (member ws n) (n ∷ xs) xs)) e
+        ∙ times-first (member ws n) n xs (times-below n (omega arith) (from-rising ws k (n + 1)))
+        ∙ ap (λ (j : ℕ). pick (member ws j) 1 0) (sym e)
+    go (no g) r = times-other (member ws n) n m xs g ∙ r (omega arith)
+
+-- each member stands in the list once, and nothing else stands there
+pub members-complete : (ws : List ℕ) (m : ℕ) → times m (members ws) ≡ pick (member ws m) 1 0
+unfolding members
+members-complete ws m = from-times ws (size ws) 0 m (omega arith) (λ h. past-size ws m (omega arith))
+
+-- nothing is listed from any number on
+from-none : (ws : List ℕ) (k n : ℕ) → ((m : ℕ) → member ws m ≡ false) → membersFrom ws k n ≡ []
+unfolding membersFrom pick
+from-none ws zero n f = refl
+from-none ws (suc k) n f =
+    ap (λ (b : Bool). pick b (n ∷ membersFrom ws k (n + 1)) (membersFrom ws k (n + 1))) (f n) ∙ from-none ws k (n + 1) f
+
+-- a set with no member lists none
+pub none-nil : (ws : List ℕ) → ((m : ℕ) → member ws m ≡ false) → isNil (members ws) ≡ true
+unfolding members isNil
+none-nil ws f = ap isNil (from-none ws (size ws) 0 f)
+
+-- nothing stands in a list with no element
+times-nil : (xs : List ℕ) (m : ℕ) → isNil xs ≡ true → times m xs ≡ 0
+unfolding isNil times
+times-nil [] m h = refl
+times-nil (x ∷ xs) m h = let z : _≡_ {A = ℕ} 0 1 = cc in absurd (omega arith)
+
+-- a count of none says that the test failed
+pick-none : (b : Bool) → pick {A = ℕ} b 1 0 ≡ 0 → b ≡ false
+unfolding pick
+pick-none true h = absurd (omega arith)
+pick-none false h = refl
+
+-- a set that lists none has no member
+pub nil-none : (ws : List ℕ) (m : ℕ) → isNil (members ws) ≡ true → member ws m ≡ false
+nil-none ws m h = pick-none (member ws m) (sym (members-complete ws m) ∙ times-nil (members ws) m h)
+
+-- where each word is zero there is no member
+pub zero-words : (ws : List ℕ) → ((i : ℕ) → i < length ws → getD ws i 0 ≡ 0) → isNil (members ws) ≡ true
+unfolding member size
+zero-words ws f = none-nil ws (λ m. go m (decLt (m / 64) (length ws)))
+  where
+    go : (m : ℕ) → Dec (m / 64 < length ws) → member ws m ≡ false
+    go m (yes h) = ap (λ (w : ℕ). bit w (m % 64)) (f (m / 64) h) ∙ zero-bit (m % 64)
+    go m (no g) = past-size ws m (omega arith)
+
+-- where a word is not zero there is a member
+pub some-word : {bits : ℕ} {ws : List ℕ} (i : ℕ) → Words bits ws → (getD ws i 0 ≡ 0 → ⊥) → isNil (members ws) ≡ false
+some-word {ws = ws} i w f = go (isNil (members ws)) refl
+  where
+    go : (b : Bool) → isNil (members ws) ≡ b → isNil (members ws) ≡ false
+    go false e = e
+    go true e =
+        absurd
+        (f
+        (same-bits 64 (getD ws i 0) 0 (w .small i) (lit< tt)
+        (λ j l. sym (word-bit ws i j l) ∙ nil-none ws (64 * i + j) e ∙ sym (zero-bit j))))

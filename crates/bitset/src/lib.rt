@@ -1,7 +1,8 @@
 // Sets of the numbers 0 to 255 in four words, by value.
 ghost use mathlib.Core.Path.{_≡_};
 ghost use Prim.Native.Nat.{ℕ, _+_, _*_, _%_, _^_};
-ghost use Rattle.bitset.specs.Sets.{member, empty, insert, union, members};
+ghost use Rattle.bitset.specs.Sets.{member, empty, insert, union, members, isNil, Words};
+ghost use Rattle.bitset.specs.Iter.{left, firstOf, restOf};
 
 pub struct Bitset {
     pub words: [u64; 4],
@@ -10,6 +11,21 @@ pub struct Bitset {
 pub struct Replaced {
     pub old: bool,
     pub set: Bitset,
+}
+
+pub enum Member {
+    At(usize),
+    Nothing,
+}
+
+pub struct BitsetIter {
+    pub set: Bitset,
+    pub at: usize,
+}
+
+pub struct Step {
+    pub member: Member,
+    pub rest: BitsetIter,
 }
 
 // The word with bit k alone, k counted modulo 64.
@@ -30,7 +46,8 @@ impl Bitset {
     }
 
     pub fn has_bit(self, bit: usize) -> bool
-        ensures { λ r. ⌜ r ≡ member (self .words) bit ⌝ }
+        ensures tells { λ r. ⌜ r ≡ member (self .words) bit ⌝ }
+        ensures words { λ r. do ⌜ Words (← ⟦Bitset::BITS⟧ .entry) (self .words) ⌝ }
     {
         if bit < Bitset::BITS {
             let w = bit / 64;
@@ -41,7 +58,8 @@ impl Bitset {
     }
 
     pub fn set_bit(mut self, bit: usize) -> Self
-        ensures { λ r. ⌜ r .words ≡ insert (self .words) bit ⌝ }
+        ensures adds { λ r. ⌜ r .words ≡ insert (self .words) bit ⌝ }
+        ensures words { λ r. do ⌜ Words (← ⟦Bitset::BITS⟧ .entry) (self .words) ⌝ }
     {
         if bit < Bitset::BITS {
             let w = bit / 64;
@@ -68,5 +86,46 @@ impl Bitset {
             i += 1;
         }
         set
+    }
+
+    pub fn is_empty(self) -> bool
+        ensures { λ r. ⌜ r ≡ isNil (members (self .words)) ⌝ }
+    {
+        let mut i = 0;
+        while i < Bitset::WORDS {
+            if self.words[i] != 0 {
+                return false;
+            }
+            i += 1;
+        }
+        true
+    }
+
+    pub fn iter(self) -> BitsetIter
+        ensures { λ r. ⌜ left r ≡ members (self .words) ⌝ }
+    {
+        BitsetIter { set: self, at: 0 }
+    }
+}
+
+impl BitsetIter {
+    pub fn next(self) -> Step
+        ensures { λ r. ⌜ (r .member ≡ firstOf (left self)) × (left (r .rest) ≡ restOf (left self)) ⌝ }
+    {
+        let set = self.set;
+        let mut i = self.at;
+        while i < Bitset::BITS {
+            if set.has_bit(i) {
+                return Step {
+                    member: Member::At(i),
+                    rest: BitsetIter { set: set, at: i + 1 },
+                };
+            }
+            i += 1;
+        }
+        Step {
+            member: Member::Nothing,
+            rest: BitsetIter { set: set, at: i },
+        }
     }
 }
