@@ -21,6 +21,18 @@ pub from-step : (ws : List ℕ) (i : ℕ) → i < size ws
 unfolding membersFrom
 from-step ws i h = let g : size ws - i ≡ suc (size ws - (i + 1)) = omega arith in rw g
 
+-- a member comes first of what is left from it on
+pub from-member : (ws : List ℕ) (i : ℕ) → i < size ws → member ws i ≡ true
+    → membersFrom ws (size ws - i) i ≡ i ∷ membersFrom ws (size ws - (i + 1)) (i + 1)
+unfolding pick
+from-member ws i h e = rw (from-step ws i h, e)
+
+-- what is no member is passed over
+pub from-other : (ws : List ℕ) (i : ℕ) → i < size ws → member ws i ≡ false
+    → membersFrom ws (size ws - i) i ≡ membersFrom ws (size ws - (i + 1)) (i + 1)
+unfolding pick
+from-other ws i h e = rw (from-step ws i h, e)
+
 -- past the size nothing is left
 pub from-end : (ws : List ℕ) (i : ℕ) → size ws ≤ i → membersFrom ws (size ws - i) i ≡ []
 unfolding membersFrom

@@ -1,0 +1,74 @@
+-- `Bitset::union` meets its contract. The invariant: the first i words are those of the union, the others still the set's own (`Joined`).
+-- The measure is what is left of the words.
+use Prim.Native.Nat.{_≤_, _-_}
+use mathlib.Core.Path.{_≡_, sym, _∙_}
+use native.Mathlib.Omega.{arith}
+use borrow.Author.Needs.{needs}
+use lib.ListN.{length}
+use Rattle.bitset.proofs.Joined.{Joined, joined-none, joined-more, joined-all}
+use Rattle.bitset.proofs.Bitset.union.Statement.{statement}
+use Rattle.bitset.proofs.Bitset.union.Tie as tie
+use Rattle.bitset.proofs.Bitset.union.Reads as reads
+use Rattle.bitset.proofs.Bitset.union.Lts as lts
+
+abbrev Inv-loop : tie.InvT-loop
+Inv-loop other set₀ i₀ set i = (i ≤ 4) × (length (set .words) ≡ 4) × Joined (set₀ .words) (other .words) i (set .words)
+
+abbrev μ-loop : tie.MeasureT-loop
+μ-loop other set₀ i₀ set i = 4 - i
+
+loop-holds : tie.Need-loop-holds Inv-loop μ-loop
+loop-holds c = (search needs, search needs, joined-none _ _)
+
+mul-set : tie.Need-mul-set Inv-loop μ-loop
+mul-set c = search needs
+
+element-copy-out-set : tie.Need-element-copy-out-set Inv-loop μ-loop
+element-copy-out-set c = search needs
+
+mul-set-2 : tie.Need-mul-set-2 Inv-loop μ-loop
+mul-set-2 c = search needs
+
+element-copy-out-set-2 : tie.Need-element-copy-out-set-2 Inv-loop μ-loop
+element-copy-out-set-2 c = search needs
+
+mul-set-3 : tie.Need-mul-set-3 Inv-loop μ-loop
+mul-set-3 c = search needs
+
+element-write-set : tie.Need-element-write-set Inv-loop μ-loop
+element-write-set c = search needs
+
+add-i : tie.Need-add-i Inv-loop μ-loop
+add-i c = search needs
+
+loop-less : tie.Need-loop-less Inv-loop μ-loop
+loop-less c = search needs
+
+loop-again : tie.Need-loop-again Inv-loop μ-loop
+loop-again c =
+    let l : length (c .before .before .before .before .args .self .words) ≡ 4 = search needs in
+    (search needs, search needs, joined-more (omega arith) (c .before .before .before .loop .inv .2))
+
+returns : tie.Need-returns Inv-loop μ-loop
+returns c =
+    let a : length (c .before .before .args .self .words) ≡ 4 = search needs in
+    let b : length (c .before .before .args .t2 .words) ≡ 4 = search needs in
+    joined-all (omega arith) (a ∙ sym b) (c .before .loop .inv .2)
+
+pub union-spec : {M : Type 1} → statement M
+union-spec =
+    tie.close
+    (tie.spec
+    Inv-loop
+    μ-loop
+    loop-holds
+    mul-set
+    element-copy-out-set
+    mul-set-2
+    element-copy-out-set-2
+    mul-set-3
+    element-write-set
+    add-i
+    loop-less
+    loop-again
+    returns)
