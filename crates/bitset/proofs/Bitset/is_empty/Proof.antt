@@ -34,7 +34,8 @@ element-copy-out-if1 c = search needs
 
 returns : tie.Need-returns Inv-loop μ-loop
 returns c =
-    sym (some-word (c .before .before .before .loop .i) (words (c .before .before .before .before)) (c .if1 .taken))
+    let w = words (c .before .before .before .before) in
+    (sym (some-word (c .before .before .before .loop .i) w (c .if1 .taken)), w)
 
 add-i : tie.Need-add-i Inv-loop μ-loop
 add-i c = search needs
@@ -48,7 +49,7 @@ loop-again c = (search needs, below-more _ _ (c .before .before .before .loop .i
 returns-2 : tie.Need-returns-2 Inv-loop μ-loop
 returns-2 c =
     let l : length (c .before .before .args .t1 .words) ≡ 4 = search needs in
-    sym (zero-words (c .before .before .args .t1 .words) (λ k h. c .before .loop .inv .1 k (omega arith)))
+    (sym (zero-words (c .before .before .args .t1 .words) (λ k h. c .before .loop .inv .1 k (omega arith))), words (c .before .before))
 
 pub is-empty-spec : {M : Type 1} → statement M
 is-empty-spec =
