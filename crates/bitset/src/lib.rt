@@ -8,7 +8,7 @@ ghost use Rattle.bitset.specs.Iter.{left, firstOf, restOf};
 
 // A set: bit n % 64 of word n / 64 says whether n is a member.
 pub struct Bitset {
-    pub words: [u64; 4],
+    pub words: [u64; Bitset::WORDS],
 }
 
 // What `replace_bit` gives: whether the number was a member, and the set with it.
@@ -72,12 +72,11 @@ impl Bitset {
         ensures tells { λ r. ⌜ r ≡ member (self .words) bit ⌝ }
         ensures words { λ r. do ⌜ Words (← ⟦Bitset::BITS⟧ .entry) (self .words) ⌝ }
     {
-        if bit < Bitset::BITS {
-            let w = bit / 64;
-            (self.words[w] >> (bit % 64)) % 2 == 1
-        } else {
-            false
+        if Bitset::BITS <= bit {
+            return false;
         }
+        let w = bit / 64;
+        (self.words[w] >> (bit % 64)) % 2 == 1
     }
 
     // `has_bit` and `set_bit` at once: the old membership of `bit`, and the set with it.
@@ -86,8 +85,8 @@ impl Bitset {
         ensures adds { λ r. ⌜ r .set .words ≡ insert (self .words) bit ⌝ }
         ensures words { λ r. do ⌜ Words (← ⟦Bitset::BITS⟧ .entry) (self .words) ⌝ }
     {
-        let old = self.has_bit(bit);
         let set = self.set_bit(bit);
+        let old = self.has_bit(bit);
         Replaced { old: old, set: set }
     }
 
@@ -113,10 +112,10 @@ impl Bitset {
         ensures others { λ r. do ⌜ Words (← ⟦Bitset::BITS⟧ .entry) (other .words) ⌝ }
     {
         let mut set = self;
-        let mut i = 0;
-        while i < Bitset::WORDS {
-            set.words[i] = set.words[i] | other.words[i];
-            i += 1;
+        let mut k = 0;
+        while k < Bitset::WORDS {
+            set.words[k] = set.words[k] | other.words[k];
+            k += 1;
         }
         set
     }
@@ -137,19 +136,19 @@ impl BitsetIter {
         ensures leaves { λ r. ⌜ left (r .rest) ≡ restOf (left self) ⌝ }
     {
         let set = self.set;
-        let mut i = self.at;
-        while i < Bitset::BITS {
-            if set.has_bit(i) {
+        let mut n = self.at;
+        while n < Bitset::BITS {
+            if set.has_bit(n) {
                 return Step {
-                    member: Member::At(i),
-                    rest: BitsetIter { set: set, at: i + 1 },
+                    member: Member::At(n),
+                    rest: BitsetIter { set: set, at: n + 1 },
                 };
             }
-            i += 1;
+            n += 1;
         }
         Step {
             member: Member::Nothing,
-            rest: BitsetIter { set: set, at: i },
+            rest: BitsetIter { set: set, at: n },
         }
     }
 }

@@ -12,6 +12,12 @@ use Rattle.bitset.proofs.Bitset.has_bit.Lts as lts
 words : (c : tie.Start) → Words 256 (c .args .t1 .words)
 words c = array-words 4 (c .args .t1 .words) (search needs) (λ i. search needs)
 
+returns : tie.Need-returns
+returns c =
+    let w = words (c .before) in
+    let s = w .sized in
+    (sym (past-size (c .before .args .t1 .words) _ (omega arith)), w)
+
 mul-result : tie.Need-mul-result
 mul-result c = search needs
 
@@ -21,16 +27,9 @@ element-copy-out-result c = search needs
 shr-result : tie.Need-shr-result
 shr-result c = search needs
 
-
-returns : tie.Need-returns
-unfolding member bit
-returns c = (search needs, words (c .before .before))
-
 returns-2 : tie.Need-returns-2
-returns-2 c = 
-    let w = words (c .before) in
-    let s = w .sized in
-    (sym (past-size (c .before .args .t1 .words) _ (omega arith)), w)
+unfolding member bit
+returns-2 c = (search needs, words (c .before .before))
 
 pub has-bit-spec : {M : Type 1} → statement M
-has-bit-spec = tie.close (tie.spec mul-result element-copy-out-result shr-result returns returns-2)
+has-bit-spec = tie.close (tie.spec returns mul-result element-copy-out-result shr-result returns-2)

@@ -1,4 +1,4 @@
--- `Bitset::union` meets its contract. The invariant: the first i words are those of the union, the others still the set's own (`Joined`).
+-- `Bitset::union` meets its contract. The invariant: the first k words are those of the union, the others still the set's own (`Joined`).
 -- The measure is what is left of the words.
 use Prim.Native.Nat.{_≤_, _-_}
 use mathlib.Core.Path.{_≡_, sym, _∙_}
@@ -13,10 +13,10 @@ use Rattle.bitset.proofs.Bitset.union.Reads as reads
 use Rattle.bitset.proofs.Bitset.union.Lts as lts
 
 abbrev Inv-loop : tie.InvT-loop
-Inv-loop other set₀ i₀ set i = (i ≤ 4) × (length (set .words) ≡ 4) × Joined (set₀ .words) (other .words) i (set .words)
+Inv-loop other set₀ k₀ set k = (k ≤ 4) × (length (set .words) ≡ 4) × Joined (set₀ .words) (other .words) k (set .words)
 
 abbrev μ-loop : tie.MeasureT-loop
-μ-loop other set₀ i₀ set i = 4 - i
+μ-loop other set₀ k₀ set k = 4 - k
 
 loop-holds : tie.Need-loop-holds Inv-loop μ-loop
 loop-holds c = (search needs, search needs, joined-none _ _)
@@ -39,8 +39,8 @@ mul-set-3 c = search needs
 element-write-set : tie.Need-element-write-set Inv-loop μ-loop
 element-write-set c = search needs
 
-add-i : tie.Need-add-i Inv-loop μ-loop
-add-i c = search needs
+add-k : tie.Need-add-k Inv-loop μ-loop
+add-k c = search needs
 
 loop-less : tie.Need-loop-less Inv-loop μ-loop
 loop-less c = search needs
@@ -69,7 +69,7 @@ union-spec =
     element-copy-out-set-2
     mul-set-3
     element-write-set
-    add-i
+    add-k
     loop-less
     loop-again
     returns)

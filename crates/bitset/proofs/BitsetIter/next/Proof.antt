@@ -1,4 +1,4 @@
--- `BitsetIter::next` meets its contract. The invariant: what is left from i on is what was left at the start, since every number
+-- `BitsetIter::next` meets its contract. The invariant: what is left from n on is what was left at the start, since every number
 -- passed is no member. The measure is what is left of the numbers.
 use Prim.Native.Nat.{ℕ, _+_, _≤_, _<_, _-_}
 use mathlib.Core.Path.{_≡_, refl, sym, ap, _∙_}
@@ -27,10 +27,10 @@ unfolding firstOf restOf
 ends xs ys e f = (sym (ap firstOf e), f ∙ sym (ap restOf e))
 
 abbrev Inv-loop : tie.InvT-loop
-Inv-loop set i₀ i = membersFrom (set .words) (size (set .words) - i) i ≡ membersFrom (set .words) (size (set .words) - i₀) i₀
+Inv-loop set n₀ n = membersFrom (set .words) (size (set .words) - n) n ≡ membersFrom (set .words) (size (set .words) - n₀) n₀
 
 abbrev μ-loop : tie.MeasureT-loop
-μ-loop set i₀ i = 256 - i
+μ-loop set n₀ n = 256 - n
 
 loop-holds : tie.Need-loop-holds Inv-loop μ-loop
 loop-holds c = refl
@@ -48,10 +48,10 @@ returns c =
     let l = c .before .before .before .loop in
     let it = c .before .before .before .before .before .args .self in
     let s = h .1 .sized in
-    gives (left it) _ (l .i) (sym (l .inv) ∙ from-member (it .set .words) (l .i) (omega arith) (sym (h .0) ∙ c .if1 .taken))
+    gives (left it) _ (l .n) (sym (l .inv) ∙ from-member (it .set .words) (l .n) (omega arith) (sym (h .0) ∙ c .if1 .taken))
 
-add-i : tie.Need-add-i Inv-loop μ-loop
-add-i c = search needs
+add-n : tie.Need-add-n Inv-loop μ-loop
+add-n c = search needs
 
 loop-less : tie.Need-loop-less Inv-loop μ-loop
 loop-less c = search needs
@@ -62,7 +62,7 @@ loop-again c =
     let l = c .before .before .before .loop in
     let it = c .before .before .before .before .before .args .self in
     let s = h .1 .sized in
-    sym (from-other (it .set .words) (l .i) (omega arith) (sym (h .0) ∙ c .if1 .left)) ∙ l .inv
+    sym (from-other (it .set .words) (l .n) (omega arith) (sym (h .0) ∙ c .if1 .left)) ∙ l .inv
 
 returns-2 : tie.Need-returns-2 Inv-loop μ-loop
 unfolding left
@@ -70,7 +70,7 @@ returns-2 c =
     let it = c .before .before .before .args .self in
     let w : Words 256 (it .set .words) = array-words 4 (it .set .words) (search needs) (λ i. search needs) in
     let s = w .sized in
-    let e = from-end (it .set .words) (c .before .loop .i) (omega arith) in
+    let e = from-end (it .set .words) (c .before .loop .n) (omega arith) in
     ends (left it) _ (sym (c .before .loop .inv) ∙ e) e
 
 pub next-spec : {M : Type 1} → statement M
@@ -83,7 +83,7 @@ next-spec =
     has-bit-requires
     add-t7
     returns
-    add-i
+    add-n
     loop-less
     loop-again
     returns-2)
