@@ -3,13 +3,15 @@
 use mathlib.Core.Path.{_≡_, refl, sym, ap, ap₂, _∙_}
 use mathlib.Core.Bool.{Bool, true, false, _||_}
 use Prim.Native.Nat.{ℕ, zero, suc, _+_, _*_, _/_, _%_, _^_, _≤_, _<_}
-use native.Mathlib.Nat.{zero-div, div-one, pow-suc, mul-mod-left, mul-div-cancel}
+use native.Mathlib.Nat.{zero-div, div-one, div-eq-of-lt, lt-of-lt-of-le, pow-suc, mul-mod-left, mul-div-cancel}
 use native.Mathlib.Numerals.{one-add}
 use native.Mathlib.Omega.{arith}
 use lib.Arith.{lt-one}
 use lib.Dec.{eqb, eqb·zero-suc, eqb·suc-zero, eqb·suc-suc}
 use lib.Bits.{bitOr, or-shr, or-mod}
-use lib.Pow.{pow-pos, shr-shr}
+use lib.Pow.{pow-pos, pow-mono, shr-shr}
+use lib.Count.{trailingZeros, under}
+use borrow.Author.Tests.{eq-eqb}
 use Rattle.bitset.specs.Sets.{bit}
 
 -- zero has no bit
@@ -73,3 +75,38 @@ same-bits (suc k) a b ha hb q =
     let h : a / 2 ≡ b / 2 =
           same-bits k (a / 2) (b / 2) (omega arith) (omega arith) (λ j l. sym (later-bit a j) ∙ q (suc j) (omega arith) ∙ later-bit b j) in
     omega arith
+
+-- the bits of a word shifted down
+pub shifted-bit : (a k j : ℕ) → bit (a / 2 ^ k) j ≡ bit a (k + j)
+unfolding bit
+shifted-bit a k j = ap (λ (x : ℕ). eqb (x % 2) 1) (shr-shr a k j)
+
+-- a word of k bits has no bit past them
+pub past-bits : (k a j : ℕ) → a < 2 ^ k → k ≤ j → bit a j ≡ false
+unfolding bit
+past-bits k a j h l = ap (λ (x : ℕ). eqb (x % 2) 1) (div-eq-of-lt (lt-of-lt-of-le h (pow-mono l)))
+
+-- the bits below the lowest that is set, a digit at a time
+under-clear : (d t a j : ℕ) → a % 2 ≡ d → ((i : ℕ) → i < t → bit (a / 2) i ≡ false) → j < under d t → bit a j ≡ false
+under-clear zero t a zero e f h = first-bit a ∙ ap (λ (x : ℕ). eqb x 1) e
+under-clear zero t a (suc j) e f h = later-bit a j ∙ f j (omega arith)
+under-clear (suc d) t a j e f h = absurd (omega arith)
+
+-- no bit below the lowest that is set
+pub below-lowest : (k a j : ℕ) → j < trailingZeros k a → bit a j ≡ false
+unfolding trailingZeros
+below-lowest zero a j h = absurd (omega arith)
+below-lowest (suc k) a j h = under-clear (a % 2) (trailingZeros k (a / 2)) a j refl (below-lowest k (a / 2)) h
+
+-- the lowest bit that is set, a digit at a time
+under-set : (d t a : ℕ) → a % 2 ≡ d → (d ≡ 0 → bit (a / 2) t ≡ true) → bit a (under d t) ≡ true
+under-set zero t a e f = later-bit a t ∙ f refl
+under-set (suc d) t a e f = first-bit a ∙ eq-eqb (a % 2) 1 (omega arith)
+
+-- a word that is not zero has a lowest bit
+pub lowest-bit : (k a : ℕ) → 0 < a → a < 2 ^ k → bit a (trailingZeros k a) ≡ true
+unfolding trailingZeros
+lowest-bit zero a p h = absurd (omega arith)
+lowest-bit (suc k) a p h =
+    let l : a < 2 ^ k * 2 = rw (pow-suc 2 k) at h in
+    under-set (a % 2) (trailingZeros k (a / 2)) a refl (λ e. lowest-bit k (a / 2) (omega arith) (omega arith))

@@ -3,3 +3,4 @@ pub mod Bits
 pub mod Laws
 pub mod Listed
 pub mod Joined
+pub mod Ahead

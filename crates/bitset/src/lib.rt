@@ -138,13 +138,16 @@ impl BitsetIter {
         let set = self.set;
         let mut n = self.at;
         while n < Bitset::BITS {
-            if set.has_bit(n) {
+            let w = n / 64;
+            let ahead = set.words[w] >> (n % 64);
+            if ahead != 0 {
+                let m = n + u64::trailing_zeros(ahead) as usize;
                 return Step {
-                    member: Member::At(n),
-                    rest: BitsetIter { set: set, at: n + 1 },
+                    member: Member::At(m),
+                    rest: BitsetIter { set: set, at: m + 1 },
                 };
             }
-            n += 1;
+            n = 64 * (w + 1);
         }
         Step {
             member: Member::Nothing,
