@@ -4,3 +4,4 @@ pub mod Laws
 pub mod Listed
 pub mod Joined
 pub mod Ahead
+pub mod Steps

@@ -19,6 +19,11 @@ fn number(n: usize) {
     io::write_all(STDOUT_FILENO, b" ");
 }
 
+// The end of a line.
+fn end_line() {
+    io::write_all(STDOUT_FILENO, b"\n");
+}
+
 // The members that are left, in the order in which they come, and the end of the line.
 fn show(start: BitsetIter) {
     let mut it = start;
@@ -36,7 +41,7 @@ fn show(start: BitsetIter) {
             }
         }
     }
-    io::write_all(STDOUT_FILENO, b"\n");
+    end_line();
 }
 
 // One number: whether it is in a new set, what replacing it twice tells, whether the set is then empty, and its members.
@@ -79,5 +84,5 @@ fn main() {
     say(Bitset::new().is_empty());
     say(Bitset::new().set_bit(255).is_empty());
     say(a.union(b).is_empty());
-    io::write_all(STDOUT_FILENO, b"\n");
+    end_line();
 }

@@ -1,32 +1,21 @@
 -- `BitsetIter::next` meets its contract. The invariant: what is left from n on is what was left at the start. A word with nothing ahead
 -- is passed over (`ahead-none`), and else its lowest bit says the next member (`ahead-some`). The measure is what is left of the numbers.
-use Prim.Native.Nat.{ℕ, _+_, _/_, _%_, _^_, _≤_, _<_, _-_}
-use mathlib.Core.Path.{_≡_, refl, sym, ap, _∙_}
-use mathlib.Core.List.{List, [], _∷_}
+use Prim.Native.Nat.{_/_, _%_, _^_, _≤_, _-_}
+use mathlib.Core.Path.{_≡_, refl, sym, _∙_}
 use native.Mathlib.Omega.{arith}
 use borrow.Author.Needs.{needs}
 use lib.Count.{trailingZeros, trailing-le}
 use lib.ListN.{getD}
 use Rattle.bitset.specs.Sets.{size, membersFrom, Words}
-use Rattle.bitset.specs.Iter.{left, firstOf, restOf}
-use Rattle.bitset.specs.declared.Member.the-variants.{At, Nothing}
+use Rattle.bitset.specs.Iter.{left}
 use Rattle.bitset.proofs.Laws.{array-words}
 use Rattle.bitset.proofs.Listed.{from-end}
+use Rattle.bitset.proofs.Steps.{step-gives, step-ends}
 use Rattle.bitset.proofs.Ahead.{ahead, coming, ahead-none, ahead-some}
 use Rattle.bitset.proofs.BitsetIter.next.Statement.{statement}
 use Rattle.bitset.proofs.BitsetIter.next.Tie as tie
 use Rattle.bitset.proofs.BitsetIter.next.Reads as reads
 use Rattle.bitset.proofs.BitsetIter.next.Lts as lts
-
--- a step that gives the first of what is left
-gives : (xs ys : List ℕ) (n : ℕ) → xs ≡ n ∷ ys → (At n ≡ firstOf xs) × (ys ≡ restOf xs)
-unfolding firstOf restOf
-gives xs ys n e = (sym (ap firstOf e), sym (ap restOf e))
-
--- a step where nothing is left
-ends : (xs ys : List ℕ) → xs ≡ [] → ys ≡ [] → (Nothing ≡ firstOf xs) × (ys ≡ restOf xs)
-unfolding firstOf restOf
-ends xs ys e f = (sym (ap firstOf e), f ∙ sym (ap restOf e))
 
 abbrev Inv-loop : tie.InvT-loop
 Inv-loop set n₀ n = membersFrom (set .words) (size (set .words) - n) n ≡ membersFrom (set .words) (size (set .words) - n₀) n₀
@@ -73,7 +62,7 @@ returns c =
     let l = c .before .before .before .loop in
     let it = c .before .before .before .before .before .args .self in
     let w = words (c .before .before .before .before .before) in
-    gives (left it) _ (coming (it .set .words) (l .n)) (sym (l .inv) ∙ ahead-some (l .n) w (c .if1 .taken))
+    step-gives (left it) _ (coming (it .set .words) (l .n)) (sym (l .inv) ∙ ahead-some (l .n) w (c .if1 .taken))
 
 add-n : tie.Need-add-n Inv-loop μ-loop
 add-n c = search needs
@@ -98,7 +87,7 @@ returns-2 c =
     let it = c .before .before .before .args .self in
     let s = words (c .before .before .before) .sized in
     let e = from-end (it .set .words) (c .before .loop .n) (omega arith) in
-    ends (left it) _ (sym (c .before .loop .inv) ∙ e) e
+    step-ends (left it) _ (sym (c .before .loop .inv) ∙ e) e
 
 pub next-spec : {M : Type 1} → statement M
 next-spec =
