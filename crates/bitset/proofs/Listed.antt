@@ -3,7 +3,7 @@
 use mathlib.Core.Path.{_≡_, refl, sym, ap, _∙_}
 use mathlib.Core.Logic.{_≢_}
 use mathlib.Core.Bool.{Bool, true, false}
-use mathlib.Core.List.{List, [], _∷_}
+use mathlib.Core.List.{List, [], _∷_, List·Memᴰ, List·Memᴰ·head, List·Memᴰ·tail}
 use Prim.Native.Nat.{ℕ, zero, suc, _+_, _-_, _*_, _/_, _%_, _^_, _≤_, _<_}
 use native.Mathlib.Omega.{arith}
 use native.Mathlib.Decide.{ℕ-discrete, decLt}
@@ -12,7 +12,7 @@ use lib.ListN.{length, getD}
 use borrow.Author.Tests.{eq-eqb, ne-eqb}
 use Rattle.bitset.specs.Sets.{bit, member, size, Words, pick, membersFrom, members, isNil, times, Rising, none, next}
 use Rattle.bitset.proofs.Bits.{zero-bit, same-bits}
-use Rattle.bitset.proofs.Laws.{past-size, word-bit}
+use Rattle.bitset.proofs.Laws.{past-size, member-below, word-bit}
 
 -- one step of the list
 pub from-step : (ws : List ℕ) (i : ℕ) → i < size ws
@@ -148,3 +148,47 @@ some-word {ws = ws} i w f = go (isNil (members ws)) refl
         (f
         (same-bits 64 (getD ws i 0) 0 (w .small i) (lit< tt)
         (λ j l. sym (word-bit ws i j l) ∙ nil-none ws (64 * i + j) e ∙ sym (zero-bit j))))
+
+-- what stands in a list, stands first or among the others
+listed-later : (b : Bool) (n : ℕ) {m : ℕ} {xs : List ℕ} → List·Memᴰ m xs → List·Memᴰ m (pick b (n ∷ xs) xs)
+unfolding pick
+listed-later true n h = List·Memᴰ·tail h
+listed-later false n h = h
+
+-- a number below the end of what is looked at, and a member, is listed
+from-listed : (ws : List ℕ) (k n m : ℕ) → n ≤ m → m < n + k → member ws m ≡ true → List·Memᴰ m (membersFrom ws k n)
+unfolding membersFrom pick
+from-listed ws zero n m h l e = absurd (omega arith)
+from-listed ws (suc k) n m h l e = go (ℕ-discrete m n) (λ q. from-listed ws k (n + 1) m q (omega arith) e)
+  where
+    xs : List ℕ
+    xs = membersFrom ws k (n + 1)
+    go : Dec (m ≡ n) → (n + 1 ≤ m → List·Memᴰ m xs) → List·Memᴰ m (pick (member ws n) (n ∷ xs) xs)
+    go (yes q) r = let t : member ws n ≡ true = ap (member ws) (sym q) ∙ e in rw t (List·Memᴰ·head q)
+    go (no g) r = listed-later (member ws n) n (r (omega arith))
+
+-- each member is listed
+pub member-listed : (ws : List ℕ) (m : ℕ) → member ws m ≡ true → List·Memᴰ m (members ws)
+unfolding members
+member-listed ws m e =
+    let l = member-below ws m e in
+    from-listed ws (size ws) 0 m (omega arith) (omega arith) e
+
+-- what is listed stands there at least once
+listed-times : {m : ℕ} {xs : List ℕ} → List·Memᴰ m xs → 0 < times m xs
+unfolding times pick
+listed-times {m} (List·Memᴰ·head {x = x} {xs = xs} e) = rw (eq-eqb x m (sym e)) (omega arith)
+listed-times {m} (List·Memᴰ·tail {x = x} {xs = xs} h) = go (eqb x m) (listed-times h)
+  where
+    go : (b : Bool) → 0 < times m xs → 0 < pick b (suc (times m xs)) (times m xs)
+    go true l = omega arith
+    go false l = l
+
+-- what is listed is a member
+pub listed-member : (ws : List ℕ) (m : ℕ) → List·Memᴰ m (members ws) → member ws m ≡ true
+unfolding pick
+listed-member ws m h = go (member ws m) (rw (members-complete ws m) at (listed-times h))
+  where
+    go : (b : Bool) → 0 < pick b 1 0 → b ≡ true
+    go true l = refl
+    go false l = absurd (omega arith)

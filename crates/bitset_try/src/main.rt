@@ -1,4 +1,7 @@
 // Runs the sets of `bitset` at their limits and writes what they answer: a line for each number tried, then unions and their members.
+ghost use mathlib.Core.Path.{_≡_};
+ghost use mathlib.Core.Bool.{true, false};
+ghost use Prim.Native.Nat.{_≤_, _<_};
 use bitset::Bitset;
 use bitset::BitsetIter;
 use bitset::Member;
@@ -60,6 +63,15 @@ fn limit(n: usize) {
     show(two.iter());
 }
 
+// Whether a number is a member once it was added: so where it is below BITS, and else not, whatever the set.
+fn added(set: Bitset, n: usize) -> bool
+    ensures below { λ r. do bits ← ⟦Bitset::BITS⟧ .entry; ⌜ (n < bits → r ≡ true) ⌝ }
+    ensures past { λ r. do bits ← ⟦Bitset::BITS⟧ .entry; ⌜ (bits ≤ n → r ≡ false) ⌝ }
+{
+    let more = set.set_bit(n);
+    more.has_bit(n)
+}
+
 fn main() {
     limit(0);
     limit(1);
@@ -84,5 +96,7 @@ fn main() {
     say(Bitset::new().is_empty());
     say(Bitset::new().set_bit(255).is_empty());
     say(a.union(b).is_empty());
+    say(added(a, 254));
+    say(added(b, 256));
     end_line();
 }
