@@ -1,14 +1,14 @@
 -- A word shifted down to a number's own bit says which members lie ahead in that word: none where it is zero, and else its lowest bit
 -- says the next one. So an iteration passes over a whole word at a time.
-use mathlib.Core.Path.{_≡_, refl, sym, ap, ap₂, _∙_}
-use mathlib.Core.Bool.{Bool, true, false}
-use mathlib.Core.List.{List, [], _∷_}
+use mathlib.Core.Path.{_≡_, sym, ap, ap₂, _∙_}
+use mathlib.Core.Bool.{true, false}
+use mathlib.Core.List.{List, _∷_}
 use Prim.Native.Nat.{ℕ, zero, suc, _+_, _-_, _*_, _/_, _%_, _^_, _≤_, _<_}
 use native.Mathlib.Nat.{add-zero, lt-of-le-of-lt}
 use native.Mathlib.Omega.{arith}
 use native.Mathlib.Decide.{decLt}
 use lib.Count.{trailingZeros}
-use lib.ListN.{length, getD}
+use lib.ListN.{getD}
 use lib.Pow.{shr-le}
 use Rattle.bitset.specs.Sets.{bit, member, size, Words, membersFrom}
 use Rattle.bitset.proofs.Bits.{zero-bit, shifted-bit, past-bits, below-lowest, lowest-bit}

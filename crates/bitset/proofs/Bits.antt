@@ -1,7 +1,7 @@
--- The bits of one word: those of zero, of a power of two and of `bitOr`, and that the bits settle a word.
--- Each is shown for a word of any width.
-use mathlib.Core.Path.{_≡_, refl, sym, ap, ap₂, _∙_}
-use mathlib.Core.Bool.{Bool, true, false, _||_}
+-- The bits of one word: those of zero, of a power of two, of `bitOr` and of a shift, the lowest that is set, and that the bits settle
+-- the word. Each is shown for a word of any width.
+use mathlib.Core.Path.{_≡_, refl, sym, ap, _∙_}
+use mathlib.Core.Bool.{true, false, _||_}
 use Prim.Native.Nat.{ℕ, zero, suc, _+_, _*_, _/_, _%_, _^_, _≤_, _<_}
 use native.Mathlib.Nat.{zero-div, div-one, div-eq-of-lt, lt-of-lt-of-le, pow-suc, mul-mod-left, mul-div-cancel}
 use native.Mathlib.Numerals.{one-add}
@@ -73,7 +73,7 @@ same-bits (suc k) a b ha hb q =
     let la : a < 2 ^ k * 2 = rw (pow-suc 2 k) at ha in
     let lb : b < 2 ^ k * 2 = rw (pow-suc 2 k) at hb in
     let h : a / 2 ≡ b / 2 =
-          same-bits k (a / 2) (b / 2) (omega arith) (omega arith) (λ j l. sym (later-bit a j) ∙ q (suc j) (omega arith) ∙ later-bit b j) in
+    same-bits k (a / 2) (b / 2) (omega arith) (omega arith) (λ j l. sym (later-bit a j) ∙ q (suc j) (omega arith) ∙ later-bit b j) in
     omega arith
 
 -- the bits of a word shifted down

@@ -1,7 +1,7 @@
 -- What the members of a set are after each operation, over lists of words of any length, and that the members settle the set.
 use mathlib.Core.Path.{_≡_, refl, sym, ap, ap₂, _∙_}
 use mathlib.Core.Logic.{_≢_}
-use mathlib.Core.Bool.{Bool, true, false, _||_, or-true, or-false, true-or, false-or}
+use mathlib.Core.Bool.{Bool, true, false, _||_, or-true, or-false}
 use mathlib.Core.List.{List, [], _∷_}
 use Prim.Native.Nat.{ℕ, zero, suc, _+_, _*_, _/_, _%_, _^_, _≤_, _<_}
 use native.Mathlib.Omega.{arith}
@@ -74,7 +74,7 @@ insert-other ws n m f = go (ℕ-discrete (m / 64) (n / 64)) (decLt (n / 64) (len
         ∙ ap (λ (w : ℕ). bit w (m % 64)) (getD-set-same ws (n / 64) _ 0 h)
         ∙ or-bit (getD ws (n / 64) 0) (2 ^ (n % 64)) (m % 64)
         ∙ ap (λ (b : Bool). bit (getD ws (n / 64) 0) (m % 64) || b)
-            (power-bit (n % 64) (m % 64) ∙ ne-eqb (n % 64) (m % 64) (λ q. f (omega arith)))
+        (power-bit (n % 64) (m % 64) ∙ ne-eqb (n % 64) (m % 64) (λ q. f (omega arith)))
         ∙ or-false (bit (getD ws (n / 64) 0) (m % 64))
         ∙ ap (λ (i : ℕ). bit (getD ws i 0) (m % 64)) (sym e)
 
@@ -120,7 +120,7 @@ pub empty-words : (k : ℕ) → Words (64 * k) (empty k)
 unfolding size empty
 empty-words k = record { sized = ap (λ (n : ℕ). 64 * n) (length-replicate k 0); small = λ i. rw zero-at (lit< tt) }
 
--- `insert` keeps the words of a set such
+-- the words after `insert` are those of a set of the same size
 pub insert-words : {bits : ℕ} {ws : List ℕ} (n : ℕ) → Words bits ws → Words bits (insert ws n)
 unfolding insert
 insert-words {bits} {ws} n w = record { sized = insert-size ws n ∙ w .sized; small = λ i. go i (ℕ-discrete i (n / 64)) (decLt (n / 64) (length ws)) }
@@ -132,15 +132,16 @@ insert-words {bits} {ws} n w = record { sized = insert-size ws n ∙ w .sized; s
         rw (e, getD-set-same ws (n / 64) _ 0 h)
         (or-lt 64 (getD ws (n / 64) 0) (2 ^ (n % 64)) (w .small (n / 64)) (pow-lt {i = n % 64} {j = 64} (omega arith)))
 
--- a union keeps the words of sets such
+-- the words of a union are those of a set of the same size
 pub union-words : {bits : ℕ} {a b : List ℕ} → Words bits a → Words bits b → Words bits (union a b)
 unfolding size
 union-words {a = a} {b = b} wa wb =
     let sa = wa .sized in
     let sb = wb .sized in
-    record
-    { sized = ap (λ (n : ℕ). 64 * n) (union-length a b (omega arith)) ∙ sa
-    ; small = λ i. rw (union-at a b i) (or-lt 64 (getD a i 0) (getD b i 0) (wa .small i) (wb .small i)) }
+    record {
+      sized = ap (λ (n : ℕ). 64 * n) (union-length a b (omega arith)) ∙ sa;
+      small = λ i. rw (union-at a b i) (or-lt 64 (getD a i 0) (getD b i 0) (wa .small i) (wb .small i));
+    }
 
 -- bit j of word i is the membership of 64 * i + j
 pub word-bit : (ws : List ℕ) (i j : ℕ) → j < 64 → member ws (64 * i + j) ≡ bit (getD ws i 0) j
@@ -155,5 +156,5 @@ same-members {a = a} {b = b} wa wb q =
     let sb = wb .sized in
     ext-getD 0 a b (omega arith)
     (λ i h.
-      same-bits 64 (getD a i 0) (getD b i 0) (wa .small i) (wb .small i)
-      (λ j l. sym (word-bit a i j l) ∙ q (64 * i + j) ∙ word-bit b i j l))
+    same-bits 64 (getD a i 0) (getD b i 0) (wa .small i) (wb .small i)
+    (λ j l. sym (word-bit a i j l) ∙ q (64 * i + j) ∙ word-bit b i j l))

@@ -4,7 +4,7 @@ use mathlib.Core.Path.{_≡_, refl, sym, ap, _∙_}
 use mathlib.Core.Logic.{_≢_}
 use mathlib.Core.Bool.{Bool, true, false}
 use mathlib.Core.List.{List, [], _∷_, List·Memᴰ, List·Memᴰ·head, List·Memᴰ·tail}
-use Prim.Native.Nat.{ℕ, zero, suc, _+_, _-_, _*_, _/_, _%_, _^_, _≤_, _<_}
+use Prim.Native.Nat.{ℕ, zero, suc, _+_, _-_, _*_, _/_, _%_, _≤_, _<_}
 use native.Mathlib.Omega.{arith}
 use native.Mathlib.Decide.{ℕ-discrete, decLt}
 use lib.Dec.{eqb, lit<}
@@ -80,7 +80,7 @@ unfolding times pick
 times-other true n m xs f = ap (λ (b : Bool). pick b (suc (times m xs)) (times m xs)) (ne-eqb n m (λ q. f (sym q)))
 times-other false n m xs f = refl
 
--- among the numbers looked at, and where no other is a member
+-- a number from n on stands once among those listed if it is a member, and else not at all
 from-times : (ws : List ℕ) (k n m : ℕ) → n ≤ m → (n + k ≤ m → member ws m ≡ false) → times m (membersFrom ws k n) ≡ pick (member ws m) 1 0
 unfolding membersFrom times pick
 from-times ws zero n m h f = sym (ap (λ (b : Bool). pick b 1 0) (f (omega arith)))
@@ -88,6 +88,7 @@ from-times ws (suc k) n m h f = go (ℕ-discrete m n) (λ l. from-times ws k (n 
   where
     xs : List ℕ
     xs = membersFrom ws k (n + 1)
+
     go : Dec (m ≡ n) → (n + 1 ≤ m → times m xs ≡ pick (member ws m) 1 0) → times m (pick (member ws n) (n ∷ xs) xs) ≡ pick (member ws m) 1 0
     go (yes e) r =
         ap (λ (j : ℕ). times j (pick (member ws n) (n ∷ xs) xs)) e
@@ -163,6 +164,7 @@ from-listed ws (suc k) n m h l e = go (ℕ-discrete m n) (λ q. from-listed ws k
   where
     xs : List ℕ
     xs = membersFrom ws k (n + 1)
+
     go : Dec (m ≡ n) → (n + 1 ≤ m → List·Memᴰ m xs) → List·Memᴰ m (pick (member ws n) (n ∷ xs) xs)
     go (yes q) r = let t : member ws n ≡ true = ap (member ws) (sym q) ∙ e in rw t (List·Memᴰ·head q)
     go (no g) r = listed-later (member ws n) n (r (omega arith))

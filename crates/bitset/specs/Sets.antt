@@ -3,7 +3,7 @@
 use mathlib.Core.Path.{_≡_}
 use mathlib.Core.Bool.{Bool, true, false}
 use mathlib.Core.List.{List, [], _∷_}
-use Prim.Native.Nat.{ℕ, zero, suc, _+_, _-_, _*_, _/_, _%_, _^_, _≤_, _<_}
+use Prim.Native.Nat.{ℕ, zero, suc, _+_, _*_, _/_, _%_, _^_, _≤_, _<_}
 use lib.Dec.{eqb}
 use lib.Bits.{bitOr}
 use lib.ListN.{length, getD, set, replicate}
@@ -28,7 +28,7 @@ empty k = replicate k 0
 unfoldable pub insert : List ℕ → ℕ → List ℕ
 insert ws n = set ws (n / 64) (bitOr (getD ws (n / 64) 0) (2 ^ (n % 64)))
 
--- the members of both
+-- the set of what is a member of one or of the other
 unfoldable pub union : List ℕ → List ℕ → List ℕ
 union [] vs = vs
 union (a ∷ ws) [] = a ∷ ws

@@ -44,6 +44,7 @@ fn mask(k: usize) -> u64
 
 impl Bitset {
     pub const WORDS: usize = 4;
+
     pub const BITS: usize = 64 * Bitset::WORDS;
 
     // The set with no member.
@@ -105,7 +106,7 @@ impl Bitset {
         true
     }
 
-    // The set of the members of both.
+    // The set of what is a member of one or of the other.
     pub fn union(self, other: Bitset) -> Self
         ensures joins { λ r. ⌜ r .words ≡ union (self .words) (other .words) ⌝ }
         ensures words { λ r. do ⌜ Words (← ⟦Bitset::BITS⟧ .entry) (self .words) ⌝ }
@@ -144,7 +145,10 @@ impl BitsetIter {
                 let m = n + u64::trailing_zeros(ahead) as usize;
                 return Step {
                     member: Member::At(m),
-                    rest: BitsetIter { set: set, at: m + 1 },
+                    rest: BitsetIter {
+                        set: set,
+                        at: m + 1,
+                    },
                 };
             }
             n = 64 * (w + 1);

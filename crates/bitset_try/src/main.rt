@@ -84,8 +84,17 @@ fn main() {
     limit(256);
     limit(320);
     limit(0xffff_ffff_ffff_ffff);
-    let a = Bitset::new().set_bit(255).set_bit(64).set_bit(200).set_bit(63);
-    let b = Bitset::new().set_bit(128).set_bit(0).set_bit(64).set_bit(7).set_bit(256);
+    let a = Bitset::new()
+        .set_bit(255)
+        .set_bit(64)
+        .set_bit(200)
+        .set_bit(63);
+    let b = Bitset::new()
+        .set_bit(128)
+        .set_bit(0)
+        .set_bit(64)
+        .set_bit(7)
+        .set_bit(256);
     show(a.iter());
     show(b.iter());
     show(a.union(b).iter());

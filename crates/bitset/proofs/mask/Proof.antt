@@ -1,14 +1,12 @@
 -- `mask` meets its contract: a power of two below 2 ^ 64 loses nothing to the word's width.
-use mathlib.Core.Path.{_≡_, ap, _∙_}
-use Prim.Native.Nat.{ℕ, _%_, _*_, _^_}
+use mathlib.Core.Path.{ap, _∙_}
+use Prim.Native.Nat.{ℕ, _%_, _^_}
 use native.Mathlib.Nat.{one-mul, mod-eq-of-lt}
 use lib.Pow.{pow-lt}
 use borrow.Author.Needs.{needs}
 use native.Mathlib.Omega.{arith}
 use Rattle.bitset.proofs.mask.Statement.{statement}
 use Rattle.bitset.proofs.mask.Tie as tie
-use Rattle.bitset.proofs.mask.Reads as reads
-use Rattle.bitset.proofs.mask.Lts as lts
 
 shl-result : tie.Need-shl-result
 shl-result c = search needs

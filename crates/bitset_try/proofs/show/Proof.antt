@@ -1,6 +1,5 @@
 -- `show` ends: each member that `next` gives leaves fewer to come (`step-less`), and that count is the measure.
-use Prim.Native.Nat.{ℕ, _<_}
-use mathlib.Core.Path.{_≡_, sym, ap, _∙_}
+use mathlib.Core.Path.{sym, ap, _∙_}
 use native.Mathlib.Omega.{arith}
 use borrow.Author.Needs.{needs}
 use lib.ListN.{length}
@@ -8,11 +7,6 @@ use Rattle.bitset.specs.Iter.{left}
 use Rattle.bitset.proofs.Steps.{step-less}
 use Rattle.bitset_try.proofs.show.Statement.{statement}
 use Rattle.bitset_try.proofs.show.Tie as tie
-use Rattle.bitset_try.proofs.show.Reads as reads
-use Rattle.bitset_try.proofs.show.Lts as lts
-use Rattle.bitset.proofs.BitsetIter.next.Reads as next-reads
-use Rattle.bitset_try.proofs.end_line.Reads as end-line-reads
-use Rattle.bitset_try.proofs.number.Reads as number-reads
 
 abbrev Inv-loop : tie.InvT-loop
 Inv-loop it₀ it = Unit {0}

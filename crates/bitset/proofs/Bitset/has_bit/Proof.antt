@@ -6,8 +6,6 @@ use Rattle.bitset.specs.Sets.{member, bit, Words}
 use Rattle.bitset.proofs.Laws.{array-words, past-size}
 use Rattle.bitset.proofs.Bitset.has_bit.Statement.{statement}
 use Rattle.bitset.proofs.Bitset.has_bit.Tie as tie
-use Rattle.bitset.proofs.Bitset.has_bit.Reads as reads
-use Rattle.bitset.proofs.Bitset.has_bit.Lts as lts
 
 words : (c : tie.Start) → Words 256 (c .args .t1 .words)
 words c = array-words 4 (c .args .t1 .words) (search needs) (λ i. search needs)

@@ -1,7 +1,7 @@
 -- `Bitset::is_empty` meets its contract. The invariant: every word passed is zero. A word that is not zero has a member
 -- (`some-word`), and words that are all zero have none (`zero-words`). The measure is what is left of the words.
 use Prim.Native.Nat.{ℕ, _≤_, _<_, _-_}
-use mathlib.Core.Path.{_≡_, sym, _∙_}
+use mathlib.Core.Path.{_≡_, sym}
 use native.Mathlib.Omega.{arith}
 use borrow.Author.Needs.{needs}
 use borrow.Author.Count.{below-more}
@@ -11,8 +11,6 @@ use Rattle.bitset.proofs.Laws.{array-words}
 use Rattle.bitset.proofs.Listed.{zero-words, some-word}
 use Rattle.bitset.proofs.Bitset.is_empty.Statement.{statement}
 use Rattle.bitset.proofs.Bitset.is_empty.Tie as tie
-use Rattle.bitset.proofs.Bitset.is_empty.Reads as reads
-use Rattle.bitset.proofs.Bitset.is_empty.Lts as lts
 
 abbrev Inv-loop : tie.InvT-loop
 Inv-loop self i₀ i = (i ≤ 4) × ((k : ℕ) → k < i → getD (self .words) k 0 ≡ 0)

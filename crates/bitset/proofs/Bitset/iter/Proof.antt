@@ -11,9 +11,10 @@ use Rattle.bitset.proofs.Bitset.iter.Tie as tie
 
 returns : tie.Need-returns
 unfolding left members
-returns c =
-    (ap (λ (k : ℕ). membersFrom (c .args .self .words) k 0) (sub-zero (size (c .args .self .words))),
-    array-words 4 (c .args .self .words) (search needs) (λ i. search needs))
+returns c = (
+  ap (λ (k : ℕ). membersFrom (c .args .self .words) k 0) (sub-zero (size (c .args .self .words))),
+  array-words 4 (c .args .self .words) (search needs) (λ i. search needs),
+)
 
 pub iter-spec : {M : Type 1} → statement M
 iter-spec = tie.close (tie.spec returns)

@@ -2,7 +2,6 @@
 use Rattle.bitset.specs.Sets.{empty}
 use Rattle.bitset.proofs.Bitset.new.Statement.{statement}
 use Rattle.bitset.proofs.Bitset.new.Tie as tie
-use Rattle.bitset.proofs.Bitset.new.Reads as reads
 use borrow.Author.Needs.{needs}
 
 returns : tie.Need-returns

@@ -9,9 +9,6 @@ use Rattle.bitset.specs.Sets.{insert, Words}
 use Rattle.bitset.proofs.Laws.{array-words, insert-refused}
 use Rattle.bitset.proofs.Bitset.set_bit.Statement.{statement}
 use Rattle.bitset.proofs.Bitset.set_bit.Tie as tie
-use Rattle.bitset.proofs.Bitset.set_bit.Reads as reads
-use Rattle.bitset.proofs.Bitset.set_bit.Lts as lts
-use Rattle.bitset.proofs.mask.Reads as mask-reads
 
 mul-self : tie.Need-mul-self
 mul-self c = search needs
@@ -34,9 +31,10 @@ words c = array-words 4 (c .args .t1 .words) (search needs) (λ i. search needs)
 returns : tie.Need-returns
 unfolding insert
 returns c =
-    let a = c .before .before .before .args in
-    (ap (λ (m : ℕ). set (a .t1 .words) (a .bit / 64) (bitOr (getD (a .t1 .words) (a .bit / 64) 0) m)) (c .mask .ensures),
-    words (c .before .before .before))
+    let a = c .before .before .before .args in (
+      ap (λ (m : ℕ). set (a .t1 .words) (a .bit / 64) (bitOr (getD (a .t1 .words) (a .bit / 64) 0) m)) (c .mask .ensures),
+      words (c .before .before .before),
+    )
 
 returns-2 : tie.Need-returns-2
 returns-2 c =

@@ -9,8 +9,6 @@ use Rattle.bitset.proofs.Laws.{array-words}
 use Rattle.bitset.proofs.Joined.{Joined, joined-none, joined-more, joined-all}
 use Rattle.bitset.proofs.Bitset.union.Statement.{statement}
 use Rattle.bitset.proofs.Bitset.union.Tie as tie
-use Rattle.bitset.proofs.Bitset.union.Reads as reads
-use Rattle.bitset.proofs.Bitset.union.Lts as lts
 
 abbrev Inv-loop : tie.InvT-loop
 Inv-loop other set₀ k₀ set k = (k ≤ 4) × (length (set .words) ≡ 4) × Joined (set₀ .words) (other .words) k (set .words)

@@ -14,8 +14,6 @@ use Rattle.bitset.proofs.Steps.{step-gives, step-ends}
 use Rattle.bitset.proofs.Ahead.{ahead, coming, ahead-none, ahead-some}
 use Rattle.bitset.proofs.BitsetIter.next.Statement.{statement}
 use Rattle.bitset.proofs.BitsetIter.next.Tie as tie
-use Rattle.bitset.proofs.BitsetIter.next.Reads as reads
-use Rattle.bitset.proofs.BitsetIter.next.Lts as lts
 
 abbrev Inv-loop : tie.InvT-loop
 Inv-loop set n₀ n = membersFrom (set .words) (size (set .words) - n) n ≡ membersFrom (set .words) (size (set .words) - n₀) n₀
@@ -41,9 +39,9 @@ shr-ahead c = search needs
 -- fewer zeros than the word has bits
 few : (c : tie.Then1 Inv-loop μ-loop)
     → trailingZeros
-        64
-        (getD (c .before .before .before .before .before .args .self .set .words) (c .before .before .before .loop .n / 64) 0
-          / 2 ^ (c .before .before .before .loop .n % 64))
+    64
+    (getD (c .before .before .before .before .before .args .self .set .words) (c .before .before .before .loop .n / 64) 0
+    / 2 ^ (c .before .before .before .loop .n % 64))
     ≤ 64
 few c = trailing-le 64 _
 
