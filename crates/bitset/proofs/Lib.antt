@@ -5,3 +5,4 @@ pub mod Listed
 pub mod Joined
 pub mod Ahead
 pub mod Steps
+pub mod Examples

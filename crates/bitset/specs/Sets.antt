@@ -39,15 +39,15 @@ pub record Words (bits : ℕ) (ws : List ℕ) : Type 0 where
   pub sized : size ws ≡ bits
   pub small : (i : ℕ) → getD ws i 0 < 2 ^ 64
 
--- x where the test holds, else y
-unfoldable pub pick : {A : Type 0} → Bool → A → A → A
-pick true x y = x
-pick false x y = y
+-- a list with n before it where the test holds, else as it is
+unfoldable pub keep : Bool → ℕ → List ℕ → List ℕ
+keep true n xs = n ∷ xs
+keep false n xs = xs
 
 -- the members among the k numbers from n on, rising
 unfoldable pub membersFrom : List ℕ → ℕ → ℕ → List ℕ
 membersFrom ws zero n = []
-membersFrom ws (suc k) n = pick (member ws n) (n ∷ membersFrom ws k (n + 1)) (membersFrom ws k (n + 1))
+membersFrom ws (suc k) n = keep (member ws n) n (membersFrom ws k (n + 1))
 
 -- all members, rising
 unfoldable pub members : List ℕ → List ℕ
@@ -58,10 +58,15 @@ unfoldable pub isNil : List ℕ → Bool
 isNil [] = true
 isNil (x ∷ xs) = false
 
+-- 1 where the test holds, else 0
+unfoldable pub once : Bool → ℕ
+once true = 1
+once false = 0
+
 -- how often n stands in a list
 unfoldable pub times : ℕ → List ℕ → ℕ
 times n [] = 0
-times n (x ∷ xs) = pick (eqb x n) (suc (times n xs)) (times n xs)
+times n (x ∷ xs) = once (eqb x n) + times n xs
 
 -- each element is above those before it, and none is below the bound
 pub data Rising : ℕ → List ℕ → Type 0 where
