@@ -1,0 +1,8 @@
+-- The laws of `bitset`, over lists of words of any length.
+pub mod Bits
+pub mod Laws
+pub mod Listed
+pub mod Joined
+pub mod Ahead
+pub mod Steps
+pub mod Examples
