@@ -2,3 +2,5 @@ pub mod Parts
 pub mod Chains
 pub mod Loops
 pub mod Found
+pub mod Tells
+pub mod Fine
