@@ -4,3 +4,4 @@ pub mod Loops
 pub mod Found
 pub mod Tells
 pub mod Fine
+pub mod Examples
