@@ -5,3 +5,6 @@ pub mod Found
 pub mod Tells
 pub mod Fine
 pub mod Examples
+pub mod Kept
+pub mod Rows
+pub mod History
