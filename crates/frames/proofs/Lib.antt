@@ -8,3 +8,6 @@ pub mod Examples
 pub mod Kept
 pub mod Rows
 pub mod History
+pub mod Texts
+pub mod Decoded
+pub mod GoodSymbols

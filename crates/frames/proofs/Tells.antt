@@ -82,3 +82,17 @@ any-witness {A} p (y ∷ ys) e = here (any-witness p ys) (either-true (p y) (any
         → (x : A) × List·Memᴰ x (y ∷ ys) × (p x ≡ true)
     here later (inl h) = (y, List·Memᴰ·head refl, h)
     here later (inr h) = let w = later h in (w .0, List·Memᴰ·tail (w .1), w .2)
+
+-- what follows from either test follows from one of them
+pub either-cases : {P : Type 0} (t u : Bool) → (t ≡ true → P) → (u ≡ true → P) → either t u ≡ true → P
+unfolding either
+either-cases true u first second e = first refl
+either-cases false u first second e = second e
+
+pub oneOf-cases : {P : Type 0} (t : Bool) (ts : List Bool) → (t ≡ true → P) → (oneOf ts ≡ true → P) → oneOf (t ∷ ts) ≡ true → P
+unfolding oneOf
+oneOf-cases t ts first others e = either-cases t (oneOf ts) first others e
+
+pub oneOf-none : oneOf [] ≡ true → ⊥
+unfolding oneOf
+oneOf-none e = true-not-false e refl
