@@ -11,3 +11,5 @@ pub mod History
 pub mod Texts
 pub mod Decoded
 pub mod GoodSymbols
+pub mod Shapes
+pub mod Meaning

@@ -1,0 +1,94 @@
+-- How many symbols, hypotheses and pairs a record lists, by its kind; and what a strictly rising list is.
+use Prim.Native.Nat.{ℕ, zero, suc, _≤_, _<_}
+use mathlib.Core.Path.{_≡_, refl, sym, ap, _∙_}
+use mathlib.Core.Bool.{Bool, true, false}
+use mathlib.Core.List.{List, [], _∷_, List·Memᴰ·not-nil}
+use native.Mathlib.Omega.{arith}
+use lib.ListN.{length, getD}
+use Rattle.frames.specs.Logic.{atMost, equal, pick, both, risingFrom, rows}
+use Rattle.frames.specs.Layout.{u16, u32, kindAt, asserts, listsSymbols, hypCount, pairCount, listedCount, listsFrom, pairsFrom, hypsAt, pairAt, pairsAt, symbolCount, symbolsFrom, symbolsAt}
+use Rattle.frames.specs.Table.{noSymbols}
+use Rattle.frames.specs.Facts.{_∈_}
+use Rattle.frames.proofs.Chains.{pick-first, pick-second, equal-yes, equal-false, atMost-true}
+use Rattle.frames.proofs.Tells.{both-true, both-false}
+use Rattle.frames.proofs.Loops.{length-rows}
+use Rattle.frames.proofs.Fine.{WellFormed, WithinLimits}
+use Rattle.frames.proofs.Kept.{pick-cases}
+use Rattle.frames.proofs.Decoded.{lists-yes}
+
+not-zero : (n : ℕ) → (n ≡ 0 → ⊥) → 1 ≤ n
+not-zero n h = omega arith
+
+module _ (f : List ℕ) (o : ℕ) where
+  pub symbols-count : length (symbolsAt f o) ≡ symbolCount f o
+  unfolding symbolsAt
+  symbols-count = length-rows (u16 f) 2 (symbolCount f o) (symbolsFrom f o)
+
+  pub hyps-count : length (hypsAt f o) ≡ hypCount f o
+  unfolding hypsAt
+  hyps-count = length-rows (u32 f) 4 (hypCount f o) (listsFrom f o)
+
+  pub pairs-count : length (pairsAt f o) ≡ pairCount f o
+  unfolding pairsAt
+  pairs-count = length-rows (pairAt f) 4 (pairCount f o) (pairsFrom f o)
+
+  -- a $f has two symbols
+  pub float-two : kindAt f o ≡ 2 → length (symbolsAt f o) ≡ 2
+  unfolding symbolCount
+  float-two k = symbols-count ∙ sym (pick-first (listedCount f o) (equal-yes k) refl)
+
+  -- every statement has one
+  pub symbols-some : WellFormed f o → 2 ≤ kindAt f o → kindAt f o ≤ 5 → 1 ≤ length (symbolsAt f o)
+  unfolding symbolCount noSymbols
+  symbols-some w low high =
+      rw symbols-count
+      (pick-cases (λ n. 1 ≤ n) (equal (kindAt f o) 2) 2 (listedCount f o) (λ e. omega arith)
+      (λ e.
+      let n = equal-false _ _ e in
+      not-zero (listedCount f o) (equal-false _ _ (both-false _ _ (w .symbols) (lists-yes (kindAt f o) (omega arith) high)))))
+
+  pub symbols-most : listedCount f o ≤ 1024 → length (symbolsAt f o) ≤ 1024
+  unfolding symbolCount
+  symbols-most h =
+      rw symbols-count (pick-cases (λ n. n ≤ 1024) (equal (kindAt f o) 2) 2 (listedCount f o) (λ e. omega arith) (λ e. h))
+
+  -- only a $a or $p lists hypotheses and pairs
+  pub hyps-none : asserts (kindAt f o) ≡ false → hypsAt f o ≡ []
+  unfolding hypsAt hypCount pick rows
+  hyps-none e = rw e refl
+
+  pub pairs-none : asserts (kindAt f o) ≡ false → pairsAt f o ≡ []
+  unfolding pairsAt pairCount pick rows
+  pairs-none e = rw e refl
+
+  pub hyp-asserts : (h : ℕ) → h ∈ hypsAt f o → asserts (kindAt f o) ≡ true
+  hyp-asserts h m = here (asserts (kindAt f o)) refl
+    where
+      here : (t : Bool) → asserts (kindAt f o) ≡ t → t ≡ true
+      here true e = refl
+      here false e = absurd (List·Memᴰ·not-nil (rw (hyps-none e) at m))
+
+  pub pair-asserts : (q : ℕ × ℕ) → q ∈ pairsAt f o → asserts (kindAt f o) ≡ true
+  pair-asserts q m = here (asserts (kindAt f o)) refl
+    where
+      here : (t : Bool) → asserts (kindAt f o) ≡ t → t ≡ true
+      here true e = refl
+      here false e = absurd (List·Memᴰ·not-nil (rw (pairs-none e) at m))
+
+-- a rising list is nowhere below its bound
+rising-least : (low : ℕ) (xs : List ℕ) (i : ℕ) → risingFrom low xs ≡ true → i < length xs → low ≤ getD xs i 0
+unfolding risingFrom
+rising-least low [] i e h = absurd (omega arith)
+rising-least low (x ∷ xs) zero e h = atMost-true _ _ (both-true _ _ e .0)
+rising-least low (x ∷ xs) (suc i) e h =
+    let b = both-true (atMost low x) (risingFrom (suc x) xs) e in
+    omega (arith, atMost-true _ _ (b .0), rising-least (suc x) xs i (b .1) (omega arith))
+
+-- and rises from each member to each later one
+pub rising-strict : (low : ℕ) (xs : List ℕ) → risingFrom low xs ≡ true → (i j : ℕ) → i < j → j < length xs
+    → getD xs i 0 < getD xs j 0
+unfolding risingFrom
+rising-strict low [] e i j l h = absurd (omega arith)
+rising-strict low (x ∷ xs) e i zero l h = absurd (omega arith)
+rising-strict low (x ∷ xs) e zero (suc j) l h = rising-least (suc x) xs j (both-true _ _ e .1) (omega arith)
+rising-strict low (x ∷ xs) e (suc i) (suc j) l h = rising-strict (suc x) xs (both-true _ _ e .1) i j (omega arith) (omega arith)
