@@ -50,7 +50,7 @@ module _ (f : List ℕ) (Inv : Index → ℕ → Type 0) (P : Outcome → Type 0
 abbrev Ends : (Index → ℕ → Type 0) → Outcome → Type 0
 Ends Inv r = (a b : ℕ) → r .verdict ≡ Good a b → (o : ℕ) × Inv (r .index) o × (r .index .owed ≡ false)
 
-refused-not-good : {v : Verdict} {why : Refusal} {place a b : ℕ} → v ≡ Refused why place → v ≡ Good a b → ⊥
+pub refused-not-good : {v : Verdict} {why : Refusal} {place a b : ℕ} → v ≡ Refused why place → v ≡ Good a b → ⊥
 refused-not-good p q = let z : _≡_ {A = ℕ} 0 1 = cc in omega arith
 
 refusal-ends : (Inv : Index → ℕ → Type 0) (why : Refusal) (place : ℕ) (ix : Index) → Ends Inv (refusal why place ix)

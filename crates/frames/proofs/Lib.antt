@@ -13,3 +13,5 @@ pub mod Decoded
 pub mod GoodSymbols
 pub mod Shapes
 pub mod Meaning
+pub mod GoodStatements
+pub mod GoodFacts
