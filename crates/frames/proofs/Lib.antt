@@ -2,3 +2,6 @@ pub mod Parts
 pub mod Chains
 pub mod Loops
 pub mod Found
+pub mod Tables
+pub mod Fine
+pub mod Walking

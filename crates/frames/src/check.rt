@@ -5,7 +5,8 @@ ghost use Prim.Native.Nat.{_+_, _≤_, _<_};
 ghost use lib.ListN.{length, set, take};
 ghost use Rattle.frames.specs.Logic.{equal, pick};
 ghost use Rattle.frames.specs.Layout.{kindAt, nextAt, isStatement};
-ghost use Rattle.frames.specs.Verdict.{faultAt, laid, outcome, verdict, index};
+ghost use Rattle.frames.specs.Verdict.{faultAt, endVerdict};
+ghost use Rattle.frames.specs.Check.{Checked, Advanced};
 use crate::Fault;
 use crate::Refusal;
 use crate::Verdict;
@@ -100,4 +101,89 @@ fn take_statement(statements: &mut [u32], count: usize, kind: usize, at: u32) ->
         return count + 1;
     }
     count
+}
+
+// Where the walk stands after the record at `st.at`, which is good.
+fn advance(file: &[u8], symbols: &mut [u32], statements: &mut [u32], st: Walk) -> Walk
+    requires { ⌜ (st .symbols < 5000) × ((st .statements < 5000) × (nextAt (now file) (st .at) < 4294967296)) ⌝ }
+    ensures { λ r. ⌜ Advanced (now (file .entry)) (now (symbols .entry)) (now (statements .entry)) st (now (symbols .exit)) (now (statements .exit)) r ⌝ }
+{
+    let at = st.at;
+    let n = st.symbols;
+    let m = st.statements;
+    let kind = kind_at(file, at);
+    let next = next_at(file, at);
+    let symbols_now = take_symbol(symbols, n, kind, at);
+    let statements_now = take_statement(statements, m, kind, at);
+    Walk {
+        at: next as u32,
+        symbols: symbols_now,
+        statements: statements_now,
+        owed: kind == 5,
+    }
+}
+
+// At the end of the file: a $p last in the file lacks its proof.
+fn at_end(len: usize, st: Walk) -> Verdict
+    ensures { λ r. ⌜ r ≡ endVerdict (st .owed) len (st .symbols) (st .statements) ⌝ }
+{
+    if st.owed {
+        return Verdict::Refused {
+            why: Refusal::NoProof,
+            place: len,
+        };
+    }
+    Verdict::Good {
+        symbols: st.symbols,
+        statements: st.statements,
+    }
+}
+
+// The records of a file of at most 1,048,576 bytes, one after another.
+fn walk_records(file: &[u8], symbols: &mut [u32], statements: &mut [u32]) -> Verdict
+    requires { ⌜ (length (now file) ≤ 1048576) × ((4096 ≤ length (now symbols)) × (4096 ≤ length (now statements))) ⌝ }
+    ensures { λ r. ⌜ Checked (now (file .entry)) (now (symbols .entry)) (now (statements .entry)) (now (symbols .exit)) (now (statements .exit)) r ⌝ }
+{
+    let len = file.len();
+    let mut st = Walk {
+        at: 0,
+        symbols: 0,
+        statements: 0,
+        owed: false,
+    };
+    loop {
+        let at = st.at as usize;
+        if len <= at {
+            return at_end(len, st);
+        }
+        match judge(file, &symbols[..], &statements[..], st) {
+            Fault::Is(why) => return Verdict::Refused { why, place: at },
+            Fault::Fine => {
+                st = advance(file, symbols, statements, st);
+            }
+        }
+    }
+}
+
+// The number of a table's entries.
+fn full(table: &[u32; 4096]) -> usize
+    ensures { λ r. ⌜ length (now (table .entry)) ≡ 4096 ⌝ }
+{
+    let t = &table[..];
+    t.len()
+}
+
+// The file check: the verdict on any bytes. It leaves the offsets of the symbols and of the statements in the tables.
+pub fn check(file: &[u8], symbols: &mut [u32; 4096], statements: &mut [u32; 4096]) -> Verdict
+    ensures { λ r. ⌜ Checked (now (file .entry)) (now (symbols .entry)) (now (statements .entry)) (now (symbols .exit)) (now (statements .exit)) r ⌝ }
+{
+    if 1048576 < file.len() {
+        return Verdict::Refused {
+            why: Refusal::TooMany,
+            place: 0,
+        };
+    }
+    full(symbols);
+    full(statements);
+    walk_records(file, symbols, statements)
 }
