@@ -1,5 +1,6 @@
 // The line that tells a verdict on a frame file: `good SYMBOLS STATEMENTS` or `refused NUMBER PLACE`, and LF.
-// Each public function puts it at the start of a lent array and answers how many bytes it has.
+// `good` and `refused` put it at the start of a lent array and answer how many bytes it has; `print` writes it.
+use frames::Verdict;
 ghost use mathlib.Core.Path.{_≡_};
 ghost use Prim.Native.Nat.{_+_, _≤_};
 ghost use lib.ListN.{length, take};
@@ -57,4 +58,29 @@ pub fn refused(number: usize, place: usize, out: &mut [u8; 64]) -> usize
     ensures { λ r. ⌜ take r (now (out .exit)) ≡ refusedLine number place ⌝ }
 {
     put_line(out, b"refused ", number, place)
+}
+
+// Writes the line of a good file.
+fn print_good(fd: i32, symbols: usize, statements: usize) {
+    let mut text = [0u8; 64];
+    let n = good(symbols, statements, &mut text);
+    io::write_all(fd, &text[..n]);
+}
+
+// Writes the line of a file that is turned away.
+fn print_refused(fd: i32, number: usize, place: usize) {
+    let mut text = [0u8; 64];
+    let n = refused(number, place, &mut text);
+    io::write_all(fd, &text[..n]);
+}
+
+// Writes a verdict as one line.
+pub fn print(fd: i32, verdict: Verdict) {
+    match verdict {
+        Verdict::Good {
+            symbols,
+            statements,
+        } => print_good(fd, symbols, statements),
+        Verdict::Refused { why, place } => print_refused(fd, frames::number(why), place),
+    }
 }
