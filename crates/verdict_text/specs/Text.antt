@@ -5,6 +5,9 @@ use mathlib.Core.List.{List, [], _∷_, _++_}
 use mathlib.Core.Bool.{Bool, true, false, cond}
 use lib.Dec.{ltb}
 use lib.ListN.{length, take}
+use Rattle.frames.specs.declared.Verdict.{Verdict}
+use Rattle.frames.specs.declared.Verdict.the-variants.{Good, Refused}
+use Rattle.frames.specs.Verdict.{numberOf}
 
 -- the decimal digits of a number below 10 ^ fuel, with no zeros in front
 unfoldable pub digitsOf : ℕ → ℕ → List ℕ
@@ -26,6 +29,11 @@ goodLine symbols statements = line (103 ∷ 111 ∷ 111 ∷ 100 ∷ 32 ∷ []) s
 -- `refused NUMBER PLACE`
 abbrev pub refusedLine : ℕ → ℕ → List ℕ
 refusedLine number place = line (114 ∷ 101 ∷ 102 ∷ 117 ∷ 115 ∷ 101 ∷ 100 ∷ 32 ∷ []) number place
+
+-- the line that tells a verdict
+abbrev pub lineOf : Verdict → List ℕ
+lineOf (Good symbols statements) = goodLine symbols statements
+lineOf (Refused why place) = refusedLine (numberOf why) place
 
 -- part stands in the buffer right after what stood before the place at, which it keeps; next is the place after it
 pub record Appended (before : List ℕ) (at : ℕ) (part after : List ℕ) (next : ℕ) : Type 0 where

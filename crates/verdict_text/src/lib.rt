@@ -1,11 +1,11 @@
 // The line that tells a verdict on a frame file: `good SYMBOLS STATEMENTS` or `refused NUMBER PLACE`, and LF.
-// `good` and `refused` put it at the start of a lent array and answer how many bytes it has; `print` writes it.
+// `put` puts it into a lent array, and is proved to put what the definition says; `print` writes it.
 use frames::Verdict;
 ghost use mathlib.Core.Path.{_≡_};
 ghost use Prim.Native.Nat.{_+_, _≤_};
 ghost use lib.ListN.{length, take};
 ghost use Rattle.io.specs.Counts.{Counts};
-ghost use Rattle.verdict_text.specs.Text.{Appended, decimal, line, goodLine, refusedLine};
+ghost use Rattle.verdict_text.specs.Text.{Appended, decimal, line, goodLine, refusedLine, lineOf};
 
 // Puts part into out from the place at on, and answers the place after it.
 fn append(out: &mut [u8], at: usize, part: &[u8]) -> usize
@@ -45,7 +45,7 @@ fn put_line(out: &mut [u8], word: &[u8], a: usize, b: usize) -> usize
 }
 
 // The line of a good file.
-pub fn good(symbols: usize, statements: usize, out: &mut [u8; 64]) -> usize
+fn good(symbols: usize, statements: usize, out: &mut [u8; 64]) -> usize
     ensures { λ r. ⌜ Counts r (now (out .exit)) ⌝ }
     ensures { λ r. ⌜ take r (now (out .exit)) ≡ goodLine symbols statements ⌝ }
 {
@@ -53,34 +53,30 @@ pub fn good(symbols: usize, statements: usize, out: &mut [u8; 64]) -> usize
 }
 
 // The line of a file that is turned away.
-pub fn refused(number: usize, place: usize, out: &mut [u8; 64]) -> usize
+fn refused(number: usize, place: usize, out: &mut [u8; 64]) -> usize
     ensures { λ r. ⌜ Counts r (now (out .exit)) ⌝ }
     ensures { λ r. ⌜ take r (now (out .exit)) ≡ refusedLine number place ⌝ }
 {
     put_line(out, b"refused ", number, place)
 }
 
-// Writes the line of a good file.
-fn print_good(fd: i32, symbols: usize, statements: usize) {
-    let mut text = [0u8; 64];
-    let n = good(symbols, statements, &mut text);
-    io::write_all(fd, &text[..n]);
-}
-
-// Writes the line of a file that is turned away.
-fn print_refused(fd: i32, number: usize, place: usize) {
-    let mut text = [0u8; 64];
-    let n = refused(number, place, &mut text);
-    io::write_all(fd, &text[..n]);
-}
-
-// Writes a verdict as one line.
-pub fn print(fd: i32, verdict: Verdict) {
+// Puts the line of a verdict at the start of out, and answers how many bytes it has.
+pub fn put(verdict: Verdict, out: &mut [u8; 64]) -> usize
+    ensures { λ r. ⌜ Counts r (now (out .exit)) ⌝ }
+    ensures { λ r. ⌜ take r (now (out .exit)) ≡ lineOf verdict ⌝ }
+{
     match verdict {
         Verdict::Good {
             symbols,
             statements,
-        } => print_good(fd, symbols, statements),
-        Verdict::Refused { why, place } => print_refused(fd, frames::number(why), place),
+        } => good(symbols, statements, out),
+        Verdict::Refused { why, place } => refused(frames::number(why), place, out),
     }
+}
+
+// Writes the line of a verdict.
+pub fn print(fd: i32, verdict: Verdict) {
+    let mut text = [0u8; 64];
+    let n = put(verdict, &mut text);
+    io::write_all(fd, &text[..n]);
 }
