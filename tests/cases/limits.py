@@ -60,6 +60,14 @@ add("symbols-4097-after-p", symbols + [p("p", [0]), const("one-more")], bad(2, 4
 add("symbols-4096-used-name", symbols[:4095] + [const("s4094")], bad(3, 4095))
 add("symbols-4096-after-p", symbols[:4095] + [p("p", [0]), symbols[4095]], bad(7, 4096))
 
+high = symbols[:4095] + [var("v")]
+add("symbols-4096-last-a-variable", high + [f("f", 4094, 4095), a("a", [4094, 4095], [0])], good(4096, 2))
+add("symbols-4096-f-of-the-one-before", high + [f("f", 4094, 4094)], bad(5, 4096))
+add("symbols-4096-typecode-the-variable", high + [f("f", 4095, 4095)], bad(5, 4096))
+add("symbols-4096-last-without-f", high + [a("a", [0, 4095])], bad(6, 4096))
+add("symbols-4096-pair-of-the-last", high + [a("a", [0], [], [(4095, 4095)])], bad(6, 4096))
+add("symbols-4096-pair-with-the-one-before", high + [a("a", [0], [], [(4095, 4094)])], bad(5, 4096))
+
 # 4,096 statements: T is symbol 0, x symbol 1; labels 0 to 4095, the first a $f.
 head = [c, x, f("0", 0, 1)]
 statements = head + [a("%d" % k, [0]) for k in range(1, 4096)]

@@ -119,3 +119,22 @@ for end in (0, 1, 2, 4294967294):
     add("e-end-%d-alone" % end, [c, x, e("e", [0, 1], end)], good(2, 1))
 add("last-of-65-symbols", [const("s%d" % k) for k in range(65)] + [e("e", [0, 64])], good(65, 1))
 add("past-the-last-of-65-symbols", [const("s%d" % k) for k in range(65)] + [e("e", [0, 65])], bad(5, 65))
+
+# Symbol numbers and statement numbers are two countings: more symbols than statements, and more statements than symbols.
+ten = [const("s%d" % k) for k in range(9)] + [x]
+add("statement-number-below-the-symbols", ten + [f("f", 0, 9), a("a", [0], [5])], bad(5, 11))
+add("statement-number-as-the-last-symbol", ten + [f("f", 0, 9), a("a", [0], [9])], bad(5, 11))
+add("statement-number-with-ten-symbols", ten + [f("f", 0, 9), a("a", [0, 9], [0])], good(10, 2))
+many = [c, x] + [e("e%d" % k, [0]) for k in range(10)]
+add("symbol-number-below-the-statements", many + [e("last", [0, 5])], bad(5, 12))
+add("variable-number-below-the-statements", many + [f("last", 0, 5)], bad(5, 12))
+add("pair-number-below-the-statements", many + [a("last", [0], [], [(1, 5)])], bad(5, 12))
+add("statement-number-above-the-symbols", many + [a("last", [0], [2, 9])], good(2, 11))
+
+# Symbols and statements in turn.
+turns = [c, e("e0", [0]), x, f("f1", 0, 1), y, f("f2", 0, 2), const("U"), e("e3", [3, 1, 2])]
+add("in-turn", turns + [a("a4", [3, 2, 1], [0, 1, 2, 3], [(1, 2)])], good(4, 5))
+add("in-turn-a-constant-in-the-pair", turns + [a("a4", [3, 2, 1], [0, 1, 2, 3], [(3, 2)])], bad(5, 8))
+add("in-turn-a-variable-as-typecode", turns + [a("a4", [2, 2, 1], [0, 1, 2, 3])], bad(5, 8))
+add("in-turn-without-f2", turns + [a("a4", [3, 1], [0, 1, 3])], bad(6, 8))
+add("in-turn-itself-listed", turns + [a("a4", [3, 2, 1], [0, 1, 2, 4])], bad(5, 8))
