@@ -2,6 +2,22 @@
 // symbols and the number of statements.
 //   void frames_check(const uint8_t *file, size_t length, uint32_t symbols[4096], uint32_t statements[4096], uint64_t answer[3]);
 use frames::Verdict;
+ghost use mathlib.Core.Path.{_≡_};
+ghost use Rattle.frames.specs.Verdict.{verdict};
+ghost use Rattle.frames_c.specs.Answer.{answerOf};
+
+// The three numbers of a verdict.
+fn answer_of(verdict: Verdict) -> [u64; 3]
+    ensures { λ r. ⌜ r ≡ answerOf verdict ⌝ }
+{
+    match verdict {
+        Verdict::Good {
+            symbols,
+            statements,
+        } => [0, symbols as u64, statements as u64],
+        Verdict::Refused { why, place } => [frames::number(why) as u64, place as u64, 0],
+    }
+}
 
 #[no_mangle]
 pub extern "C" fn frames_check(
@@ -9,16 +25,8 @@ pub extern "C" fn frames_check(
     symbols: &mut [u32; 4096],
     statements: &mut [u32; 4096],
     answer: &mut [u64; 3],
-) {
-    match frames::check(file, symbols, statements) {
-        Verdict::Good {
-            symbols: s,
-            statements: t,
-        } => {
-            *answer = [0, s as u64, t as u64];
-        }
-        Verdict::Refused { why, place } => {
-            *answer = [frames::number(why) as u64, place as u64, 0];
-        }
-    }
+)
+    ensures { λ r. ⌜ now (answer .exit) ≡ answerOf (verdict (now (file .entry))) ⌝ }
+{
+    *answer = answer_of(frames::check(file, symbols, statements));
 }
