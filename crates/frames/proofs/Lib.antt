@@ -3,5 +3,6 @@ pub mod Chains
 pub mod Loops
 pub mod Found
 pub mod Tables
+pub mod Tells
 pub mod Fine
 pub mod Walking

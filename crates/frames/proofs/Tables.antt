@@ -29,7 +29,7 @@ laid-more xs t o h =
 
 -- the same where the record may be of another kind
 pub laid-pick : (b : Bool) (xs t : List ℕ) (o : ℕ) → (b ≡ true → length xs < length t)
-  → pick b (set (laid xs t) (length xs) o) (laid xs t) ≡ laid (pick b (xs ++ (o ∷ [])) xs) t
+    → pick b (set (laid xs t) (length xs) o) (laid xs t) ≡ laid (pick b (xs ++ (o ∷ [])) xs) t
 unfolding pick
 laid-pick true xs t o h = laid-more xs t o (h refl)
 laid-pick false xs t o h = refl
@@ -40,7 +40,7 @@ count-pick true xs o = sym (length-append xs (o ∷ []))
 count-pick false xs o = refl
 
 pub few-pick : (b : Bool) (xs : List ℕ) (o : ℕ) → (b ≡ true → length xs < 4096) → length xs ≤ 4096
-  → length (pick b (xs ++ (o ∷ [])) xs) ≤ 4096
+    → length (pick b (xs ++ (o ∷ [])) xs) ≤ 4096
 unfolding pick
 few-pick true xs o h k = let l : length xs < 4096 = h refl in omega (arith, length-append xs (o ∷ []))
 few-pick false xs o h k = k

@@ -8,7 +8,7 @@ use Rattle.frames.specs.Logic.{equal, pick}
 use Rattle.frames.specs.Layout.{kindAt, nextAt, isStatement}
 use Rattle.frames.specs.Verdict.{verdict, index, laid}
 use Rattle.frames.specs.declared.Verdict.{Verdict}
-use Rattle.frames.specs.declared.check.Walk.{Walk}
+use Rattle.frames.specs.declared.walk.Walk.{Walk}
 
 -- the answer is the file's verdict; the front of each table holds the offsets of the symbols and of the statements that were
 -- read, in file order, and its other entries are as they were

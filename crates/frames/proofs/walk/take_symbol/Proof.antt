@@ -1,11 +1,11 @@
 use Rattle.frames.proofs.Chains.{equal-no, equal-yes, pick-first, pick-second}
 use borrow.Author.Needs.{needs}
 use mathlib.Core.Path.{refl}
-use Rattle.frames.proofs.check.take_symbol.Statement.{statement}
-use Rattle.frames.proofs.check.take_symbol.Tie as tie
-use Rattle.frames.proofs.check.take_symbol.Reads as reads
-use Rattle.frames.proofs.check.take_symbol.Lts as lts
-use Rattle.frames.proofs.check.lay.Reads as lay-reads
+use Rattle.frames.proofs.walk.take_symbol.Statement.{statement}
+use Rattle.frames.proofs.walk.take_symbol.Tie as tie
+use Rattle.frames.proofs.walk.take_symbol.Reads as reads
+use Rattle.frames.proofs.walk.take_symbol.Lts as lts
+use Rattle.frames.proofs.walk.lay.Reads as lay-reads
 
 lay-requires : tie.Need-lay-requires
 lay-requires c κs = search needs

@@ -1,11 +1,11 @@
 use Rattle.frames.proofs.Chains.{pick-first, pick-second}
 use borrow.Author.Needs.{needs}
 use mathlib.Core.Path.{refl}
-use Rattle.frames.proofs.check.take_statement.Statement.{statement}
-use Rattle.frames.proofs.check.take_statement.Tie as tie
-use Rattle.frames.proofs.check.take_statement.Reads as reads
-use Rattle.frames.proofs.check.take_statement.Lts as lts
-use Rattle.frames.proofs.check.lay.Reads as lay-reads
+use Rattle.frames.proofs.walk.take_statement.Statement.{statement}
+use Rattle.frames.proofs.walk.take_statement.Tie as tie
+use Rattle.frames.proofs.walk.take_statement.Reads as reads
+use Rattle.frames.proofs.walk.take_statement.Lts as lts
+use Rattle.frames.proofs.walk.lay.Reads as lay-reads
 use Rattle.frames.proofs.record.is_statement.Reads as is-statement-reads
 
 is-statement-requires : tie.Need-is-statement-requires

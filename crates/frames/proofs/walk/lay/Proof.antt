@@ -2,10 +2,10 @@ use borrow.Author.Needs.{needs}
 use lib.Seq.{set-out}
 use mathlib.Core.Path.{sym}
 use native.Mathlib.Omega.{arith}
-use Rattle.frames.proofs.check.lay.Statement.{statement}
-use Rattle.frames.proofs.check.lay.Tie as tie
-use Rattle.frames.proofs.check.lay.Reads as reads
-use Rattle.frames.proofs.check.lay.Lts as lts
+use Rattle.frames.proofs.walk.lay.Statement.{statement}
+use Rattle.frames.proofs.walk.lay.Tie as tie
+use Rattle.frames.proofs.walk.lay.Reads as reads
+use Rattle.frames.proofs.walk.lay.Lts as lts
 
 mul-table : tie.Need-mul-table
 mul-table c = search needs

@@ -2,12 +2,12 @@ use Rattle.frames.proofs.Chains.{equal-eqb}
 use Rattle.frames.specs.Logic.{equal}
 use borrow.Author.Needs.{needs}
 use mathlib.Core.Path.{_∙_, ap}
-use Rattle.frames.proofs.check.advance.Statement.{statement}
-use Rattle.frames.proofs.check.advance.Tie as tie
-use Rattle.frames.proofs.check.advance.Reads as reads
-use Rattle.frames.proofs.check.advance.Lts as lts
-use Rattle.frames.proofs.check.take_statement.Reads as take-statement-reads
-use Rattle.frames.proofs.check.take_symbol.Reads as take-symbol-reads
+use Rattle.frames.proofs.walk.advance.Statement.{statement}
+use Rattle.frames.proofs.walk.advance.Tie as tie
+use Rattle.frames.proofs.walk.advance.Reads as reads
+use Rattle.frames.proofs.walk.advance.Lts as lts
+use Rattle.frames.proofs.walk.take_statement.Reads as take-statement-reads
+use Rattle.frames.proofs.walk.take_symbol.Reads as take-symbol-reads
 use Rattle.frames.proofs.record.kind_at.Reads as kind-at-reads
 use Rattle.frames.proofs.record.next_at.Reads as next-at-reads
 

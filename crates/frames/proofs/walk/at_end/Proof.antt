@@ -1,10 +1,10 @@
 use Rattle.frames.proofs.Chains.{pick-first, pick-second}
 use Rattle.frames.specs.Verdict.{endVerdict}
 use mathlib.Core.Path.{refl}
-use Rattle.frames.proofs.check.at_end.Statement.{statement}
-use Rattle.frames.proofs.check.at_end.Tie as tie
-use Rattle.frames.proofs.check.at_end.Reads as reads
-use Rattle.frames.proofs.check.at_end.Lts as lts
+use Rattle.frames.proofs.walk.at_end.Statement.{statement}
+use Rattle.frames.proofs.walk.at_end.Tie as tie
+use Rattle.frames.proofs.walk.at_end.Reads as reads
+use Rattle.frames.proofs.walk.at_end.Lts as lts
 
 returns : tie.Need-returns
 unfolding endVerdict

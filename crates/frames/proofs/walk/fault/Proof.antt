@@ -2,10 +2,10 @@ use Rattle.frames.proofs.Chains.{unless-skip, unless-stop}
 use Rattle.frames.specs.Verdict.{faultAt}
 use borrow.Author.Needs.{needs}
 use mathlib.Core.Path.{_∙_, refl, sym}
-use Rattle.frames.proofs.check.fault.Statement.{statement}
-use Rattle.frames.proofs.check.fault.Tie as tie
-use Rattle.frames.proofs.check.fault.Reads as reads
-use Rattle.frames.proofs.check.fault.Lts as lts
+use Rattle.frames.proofs.walk.fault.Statement.{statement}
+use Rattle.frames.proofs.walk.fault.Tie as tie
+use Rattle.frames.proofs.walk.fault.Reads as reads
+use Rattle.frames.proofs.walk.fault.Lts as lts
 use Rattle.frames.proofs.table.bad_frame.Reads as bad-frame-reads
 use Rattle.frames.proofs.table.bad_label.Reads as bad-label-reads
 use Rattle.frames.proofs.table.bad_record.Reads as bad-record-reads

@@ -1,11 +1,11 @@
 use borrow.Author.Needs.{needs}
 use lib.Seq.{length-take-le}
 use mathlib.Core.Path.{sym}
-use Rattle.frames.proofs.check.judge.Statement.{statement}
-use Rattle.frames.proofs.check.judge.Tie as tie
-use Rattle.frames.proofs.check.judge.Reads as reads
-use Rattle.frames.proofs.check.judge.Lts as lts
-use Rattle.frames.proofs.check.fault.Reads as fault-reads
+use Rattle.frames.proofs.walk.judge.Statement.{statement}
+use Rattle.frames.proofs.walk.judge.Tie as tie
+use Rattle.frames.proofs.walk.judge.Reads as reads
+use Rattle.frames.proofs.walk.judge.Lts as lts
+use Rattle.frames.proofs.walk.fault.Reads as fault-reads
 
 slice-aggregate-fault : tie.Need-slice-aggregate-fault
 slice-aggregate-fault c = let a = c .before .before .before .before .args in sym (length-take-le (a .st .symbols) (a .symbols .now) (c .before .before .before .before .pre .0))

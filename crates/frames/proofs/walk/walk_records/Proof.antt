@@ -5,13 +5,13 @@ use borrow.Author.Needs.{needs}
 use lib.ListN.{length}
 use mathlib.Core.Path.{_∙_, sym}
 use native.Mathlib.Omega.{arith}
-use Rattle.frames.proofs.check.walk_records.Statement.{statement}
-use Rattle.frames.proofs.check.walk_records.Tie as tie
-use Rattle.frames.proofs.check.walk_records.Reads as reads
-use Rattle.frames.proofs.check.walk_records.Lts as lts
-use Rattle.frames.proofs.check.advance.Reads as advance-reads
-use Rattle.frames.proofs.check.at_end.Reads as at-end-reads
-use Rattle.frames.proofs.check.judge.Reads as judge-reads
+use Rattle.frames.proofs.walk.walk_records.Statement.{statement}
+use Rattle.frames.proofs.walk.walk_records.Tie as tie
+use Rattle.frames.proofs.walk.walk_records.Reads as reads
+use Rattle.frames.proofs.walk.walk_records.Lts as lts
+use Rattle.frames.proofs.walk.advance.Reads as advance-reads
+use Rattle.frames.proofs.walk.at_end.Reads as at-end-reads
+use Rattle.frames.proofs.walk.judge.Reads as judge-reads
 
 abbrev Inv-loop : tie.InvT-loop
 Inv-loop file symbols₀ statements₀ len st₀ symbols statements st = Walking file symbols₀ statements₀ symbols statements st
