@@ -3,8 +3,7 @@
 //   void frames_check(const uint8_t *file, size_t length, uint32_t symbols[4096], uint32_t statements[4096], uint64_t answer[3]);
 use frames::Verdict;
 ghost use mathlib.Core.Path.{_≡_};
-ghost use Rattle.frames.specs.Verdict.{verdict};
-ghost use Rattle.frames_c.specs.Answer.{answerOf};
+ghost use Rattle.frames_c.specs.Answer.{answerOf, Answered};
 
 // The three numbers of a verdict.
 fn answer_of(verdict: Verdict) -> [u64; 3]
@@ -26,7 +25,7 @@ pub extern "C" fn frames_check(
     statements: &mut [u32; 4096],
     answer: &mut [u64; 3],
 )
-    ensures { λ r. ⌜ now (answer .exit) ≡ answerOf (verdict (now (file .entry))) ⌝ }
+    ensures { λ r. ⌜ Answered (now (file .entry)) (now (symbols .entry)) (now (statements .entry)) (now (symbols .exit)) (now (statements .exit)) (now (answer .exit)) ⌝ }
 {
     *answer = answer_of(frames::check(file, symbols, statements));
 }

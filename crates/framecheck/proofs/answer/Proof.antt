@@ -29,7 +29,7 @@ check-requires : tie.Need-check-requires
 check-requires c κs = search needs
 
 returns-2 : tie.Need-returns-2
-returns-2 c = other-input (c .before .before .before .before .before .args .input .now) (c .check .result) (omega arith) (c .check .ensures)
+returns-2 c = other-input (c .before .before .before .before .before .args .input .now) (c .check .result) (omega arith) (c .check .ensures .answers)
 
 pub answer-spec : {M : Type 1} → statement M
 answer-spec = tie.close (tie.spec returns check-requires returns-2)
