@@ -8,7 +8,7 @@ use native.Mathlib.Omega.{arith}
 use lib.ListN.{length}
 use Rattle.frames.specs.Logic.{below, atMost, pick}
 use Rattle.frames.specs.Layout.{nextAt}
-use Rattle.frames.specs.Verdict.{Index, nothing, Outcome, faultAt, after, refusal, atEnd, decided, walk, outcome, verdict, index}
+use Rattle.frames.specs.Verdict.{Index, nothing, Outcome, faultAt, after, refusal, endVerdict, atEnd, decided, walk, outcome, verdict, index}
 use Rattle.frames.specs.Database.{GoodFile}
 use Rattle.frames.specs.declared.Refusal.{Refusal}
 use Rattle.frames.specs.declared.Refusal.the-variants.{TooMany, NoProof}
@@ -58,9 +58,10 @@ unfolding refusal
 refusal-ends Inv why place ix a b e = absurd (refused-not-good refl e)
 
 end-ends : (Inv : Index → ℕ → Type 0) (f : List ℕ) (ix : Index) (o : ℕ) → Inv ix o → Ends Inv (atEnd f ix)
-unfolding atEnd
-end-ends Inv f ix o i =
-    pick-cases (Ends Inv) (ix .owed) (refusal NoProof (length f) ix) _ (λ t. refusal-ends Inv NoProof (length f) ix) (λ t a b e. (o, i, t))
+unfolding atEnd endVerdict
+end-ends Inv f ix o i a b =
+    pick-cases (λ v. v ≡ Good a b → (o : ℕ) × Inv ix o × (ix .owed ≡ false)) (ix .owed) (Refused NoProof (length f)) _
+      (λ t e. absurd (refused-not-good refl e)) (λ t e. (o, i, t))
 
 -- an invariant that each faultless record keeps holds of a good file's index
 pub good-keeps : (f : List ℕ) (Inv : Index → ℕ → Type 0) → Inv nothing 0

@@ -2,8 +2,10 @@ pub mod Parts
 pub mod Chains
 pub mod Loops
 pub mod Found
+pub mod Tables
 pub mod Tells
 pub mod Fine
+pub mod Walking
 pub mod Examples
 pub mod Kept
 pub mod Rows

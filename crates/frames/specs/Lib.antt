@@ -4,4 +4,5 @@ pub mod Table
 pub mod Verdict
 pub mod Search
 pub mod Database
+pub mod Check
 pub mod Facts

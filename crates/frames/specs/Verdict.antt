@@ -68,12 +68,13 @@ pub record Outcome : Type 0 where
 unfoldable pub refusal : Refusal → ℕ → Index → Outcome
 refusal why place ix = record { verdict = Refused why place; index = ix }
 
--- at the end of the file: a $p last in the file lacks its proof, and the place is the file's length
+-- at the end of the file: a $p last in the file lacks its proof, and the place is the file's length; else the file is good
+unfoldable pub endVerdict : Bool → ℕ → ℕ → ℕ → Verdict
+endVerdict owed len symbols statements = pick owed (Refused NoProof len) (Good symbols statements)
+
 unfoldable pub atEnd : List ℕ → Index → Outcome
 atEnd f ix =
-    pick (ix .owed)
-    (refusal NoProof (length f) ix)
-    (record { verdict = Good (length (ix .symbols)) (length (ix .statements)); index = ix })
+    record { verdict = endVerdict (ix .owed) (length f) (length (ix .symbols)) (length (ix .statements)); index = ix }
 
 -- a fault decides, at the record's offset; a good record leaves the verdict to the rest
 unfoldable pub decided : Fault → ℕ → Index → Outcome → Outcome

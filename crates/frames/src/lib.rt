@@ -2,7 +2,6 @@
 ghost use mathlib.Core.Path.{_≡_};
 ghost use Rattle.frames.specs.Verdict.{numberOf};
 
-mod check;
 mod logic;
 mod numbers;
 mod read;
@@ -10,6 +9,9 @@ mod record;
 mod refer;
 mod table;
 mod text;
+mod walk;
+
+pub use walk::check;
 
 // Why a frame file is turned away.
 pub enum Refusal {

@@ -1,0 +1,27 @@
+-- What the file check promises, and what one step of its walk does to the tables.
+use Prim.Native.Nat.{ℕ, _+_}
+use mathlib.Core.Path.{_≡_}
+use mathlib.Core.Bool.{Bool}
+use mathlib.Core.List.{List}
+use lib.ListN.{set}
+use Rattle.frames.specs.Logic.{equal, pick}
+use Rattle.frames.specs.Layout.{kindAt, nextAt, isStatement}
+use Rattle.frames.specs.Verdict.{verdict, index, laid}
+use Rattle.frames.specs.declared.Verdict.{Verdict}
+use Rattle.frames.specs.declared.walk.Walk.{Walk}
+
+-- the answer is the file's verdict; the front of each table holds the offsets of the symbols and of the statements that were
+-- read, in file order, and its other entries are as they were
+pub record Checked (f syms stmts syms′ stmts′ : List ℕ) (answer : Verdict) : Type 0 where
+  pub answers : answer ≡ verdict f
+  pub symbols-laid : syms′ ≡ laid (index f .symbols) syms
+  pub statements-laid : stmts′ ≡ laid (index f .statements) stmts
+
+-- a step over a good record: its offset is laid into its table and counted, and the walk stands at the next record
+pub record Advanced (f syms stmts : List ℕ) (st : Walk) (syms′ stmts′ : List ℕ) (now : Walk) : Type 0 where
+  pub at-next : now .at ≡ nextAt f (st .at)
+  pub symbols-counted : now .symbols ≡ pick (equal (kindAt f (st .at)) 1) (st .symbols + 1) (st .symbols)
+  pub statements-counted : now .statements ≡ pick (isStatement (kindAt f (st .at))) (st .statements + 1) (st .statements)
+  pub owed-now : now .owed ≡ equal (kindAt f (st .at)) 5
+  pub symbols-laid : syms′ ≡ pick (equal (kindAt f (st .at)) 1) (set syms (st .symbols) (st .at)) syms
+  pub statements-laid : stmts′ ≡ pick (isStatement (kindAt f (st .at))) (set stmts (st .statements) (st .at)) stmts
