@@ -1,6 +1,6 @@
 -- Worked examples: small files, byte for byte, with the verdict that document 01 gives each. One list of files and one of
 -- verdicts, and one fact, that the verdicts are those of the files; the definition itself computes them.
-use Prim.Native.Nat.{ℕ, zero, suc, _+_, _-_, _*_}
+use Prim.Native.Nat.{ℕ, _+_}
 use mathlib.Core.Path.{_≡_, refl}
 use mathlib.Core.List.{List, [], _∷_, _++_, map}
 use lib.ListN.{replicate}

@@ -1,16 +1,14 @@
 -- The law that the layers above use: the database of a good file satisfies every fact, and so does the file. The index of a
 -- good file has a history, and each fact is read off it.
 use Prim.Native.Nat.{ℕ, _+_, _≤_, _<_}
-use mathlib.Core.Path.{_≡_, refl, sym, ap, _∙_}
-use mathlib.Core.Bool.{Bool, true, false}
+use mathlib.Core.Path.{_≡_, refl}
+use mathlib.Core.Bool.{false}
 use mathlib.Core.List.{List}
-use native.Mathlib.Omega.{arith}
-use lib.ListN.{length, getD}
+use lib.ListN.{length}
 use Rattle.frames.specs.Logic.{below}
-use Rattle.frames.specs.Layout.{kindAt, nextAt, restAt}
-use Rattle.frames.specs.Verdict.{Index, Outcome, nothing, refusal, walk, outcome, verdict, index}
+use Rattle.frames.specs.Verdict.{Index, nothing, refusal, walk, outcome, verdict, index}
 use Rattle.frames.specs.Database.{symbolAt, statementAt, decode, database, GoodFile}
-use Rattle.frames.specs.Facts.{symbolOf, statementOf, Facts, FileFacts}
+use Rattle.frames.specs.Facts.{Facts, FileFacts}
 use Rattle.frames.specs.declared.Refusal.the-variants.{TooMany}
 use Rattle.frames.specs.declared.Verdict.the-variants.{Good}
 use Rattle.frames.proofs.Chains.{below-false}

@@ -2,24 +2,24 @@
 -- the symbols and the statements that were before it (`History`), by what the row's test means (`Meaning`). That no two listed
 -- $f have one variable: of two such, the later one would be given by the earlier, and row 6 forbids that.
 use Prim.Native.Nat.{ℕ, zero, suc, _≤_, _<_}
-use mathlib.Core.Path.{_≡_, refl, sym, ap, _∙_}
-use mathlib.Core.Bool.{Bool, true, false}
+use mathlib.Core.Path.{_≡_, refl, sym, _∙_}
+use mathlib.Core.Bool.{true, false}
 use mathlib.Core.Logic.{_⊎_, inl, inr}
 use mathlib.Core.List.{List}
 use native.Mathlib.Omega.{arith}
 use native.Mathlib.Decide.{decLt}
 use lib.ListN.{length, take, drop, getD, length-take}
 use lib.Seq.{getD-take, length-take-le}
-use Rattle.frames.specs.Logic.{below, equal, pick, both, any, all}
-use Rattle.frames.specs.Layout.{kindAt, nextAt, asserts, isStatement, restFrom, restSize, restAt, hypsAt, pairsAt, symbolsAt, typecodeAt, variableAt}
+use Rattle.frames.specs.Logic.{equal}
+use Rattle.frames.specs.Layout.{kindAt, nextAt, asserts, restFrom, restSize, restAt, hypsAt, symbolsAt, typecodeAt, variableAt}
 use Rattle.frames.specs.Table.{labelByte, variables, active, floats, floatsBelow, given, hypFramed, equalMembers}
 use Rattle.frames.specs.Verdict.{Index}
 use Rattle.frames.specs.Database.{statementAt, decode}
-use Rattle.frames.specs.Facts.{_∈_, statementOf, typecode, floated, Constant, Variable, Active, Floats, Given, StatementFacts}
-use Rattle.frames.proofs.Chains.{pick-first, pick-second, below-yes, equal-yes, equal-no, equal-true, equal-false, both-second}
+use Rattle.frames.specs.Facts.{_∈_, statementOf, typecode, floated, Variable, Active, Floats, Given, StatementFacts}
+use Rattle.frames.proofs.Chains.{pick-first, pick-second, below-yes, equal-no, equal-true, equal-false, both-second}
 use Rattle.frames.proofs.Tells.{true-not-false, both-true, no-true, all-member, any-member}
-use Rattle.frames.proofs.Fine.{Faultless, WellFormed, WithinLimits, record-well-formed, limits-kept}
-use Rattle.frames.proofs.Rows.{FreshText, Refers, Framed, label-fresh, reference-good, frame-good}
+use Rattle.frames.proofs.Fine.{WellFormed, WithinLimits, record-well-formed, limits-kept}
+use Rattle.frames.proofs.Rows.{Refers, Framed, label-fresh, reference-good, frame-good}
 use Rattle.frames.proofs.History.{StatementJudged, ProofRead, History, judged-known}
 use Rattle.frames.proofs.Texts.{rest-sized, label-byte, fresh-differ}
 use Rattle.frames.proofs.Decoded.{symbols-length, statement-read, kind-range, asserts-yes, asserts-no}

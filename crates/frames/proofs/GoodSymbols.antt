@@ -1,24 +1,21 @@
 -- The facts about the symbols of a good file's database: each follows from the row that judged the symbol's record.
 use Prim.Native.Nat.{ℕ, zero, suc, _≤_, _<_}
-use mathlib.Core.Path.{_≡_, refl, sym, ap, _∙_}
-use mathlib.Core.Bool.{Bool, true, false}
+use mathlib.Core.Path.{_≡_, refl}
+use mathlib.Core.Bool.{Bool}
 use mathlib.Core.Logic.{_⊎_, inl, inr}
 use mathlib.Core.List.{List}
 use native.Mathlib.Omega.{arith}
-use lib.ListN.{length, take, getD, length-take}
-use Rattle.frames.specs.Logic.{below, both, equal}
-use Rattle.frames.specs.Layout.{kindAt, nextAt, classAt, restAt}
-use Rattle.frames.specs.Table.{nameByte, used}
-use Rattle.frames.specs.Verdict.{Index}
-use Rattle.frames.specs.Database.{symbolAt, decode}
-use Rattle.frames.specs.Facts.{symbolOf, SymbolFacts}
+use lib.ListN.{length, getD, length-take}
+use Rattle.frames.specs.Layout.{kindAt, classAt, restAt}
+use Rattle.frames.specs.Table.{nameByte}
+use Rattle.frames.specs.Database.{symbolAt}
+use Rattle.frames.specs.Facts.{SymbolFacts}
 use Rattle.frames.proofs.Chains.{below-false, equal-yes}
 use Rattle.frames.proofs.Tells.{both-false, all-member}
-use Rattle.frames.proofs.Fine.{Faultless, record-well-formed, limits-kept}
-use Rattle.frames.proofs.Rows.{FreshText, symbol-fresh}
-use Rattle.frames.proofs.History.{SymbolJudged, History}
+use Rattle.frames.proofs.Fine.{record-well-formed, limits-kept}
+use Rattle.frames.proofs.Rows.{symbol-fresh}
+use Rattle.frames.proofs.History.{History}
 use Rattle.frames.proofs.Texts.{rest-sized, name-byte, fresh-differ}
-use Rattle.frames.proofs.Decoded.{symbols-length, symbol-read}
 
 -- a class that is not above 1 is 0 or 1
 class-cases : (k : ℕ) → k ≤ 1 → (k ≡ 0) ⊎ (k ≡ 1)

@@ -1,8 +1,8 @@
 -- What the walk has judged. The invariant: each symbol and each statement of the index was found faultless, with the symbols
 -- and the statements before it as the index then was, which are the front of the index as it is now; and each $p is followed
 -- by its proof, or is the last record read. A good file's index has such a history, and no proof is owed at its end.
-use Prim.Native.Nat.{ℕ, zero, suc, _+_, _≤_, _<_}
-use mathlib.Core.Path.{_≡_, refl, sym, ap, _∙_}
+use Prim.Native.Nat.{ℕ, _≤_, _<_}
+use mathlib.Core.Path.{_≡_, refl, ap, _∙_}
 use mathlib.Core.Bool.{Bool, true, false}
 use mathlib.Core.Logic.{_⊎_, inl, inr}
 use mathlib.Core.List.{List, [], _∷_, _++_}
@@ -13,11 +13,11 @@ use lib.Seq.{take-append-le, take-length, getD-append-seam}
 use Rattle.frames.specs.Logic.{equal, pick}
 use Rattle.frames.specs.Layout.{kindAt, nextAt, isStatement, restSize, symbolsAt}
 use Rattle.frames.specs.Table.{defined}
-use Rattle.frames.specs.Verdict.{Index, nothing, after, index}
+use Rattle.frames.specs.Verdict.{nothing, after, index}
 use Rattle.frames.specs.Database.{GoodFile}
 use Rattle.frames.specs.Facts.{_∈_}
 use Rattle.frames.proofs.Chains.{below-true, equal-yes, equal-true}
-use Rattle.frames.proofs.Tells.{all-member, true-not-false}
+use Rattle.frames.proofs.Tells.{all-member}
 use Rattle.frames.proofs.Fine.{Faultless, record-well-formed, limits-kept}
 use Rattle.frames.proofs.Rows.{reference-good, proof-good}
 use Rattle.frames.proofs.Kept.{good-keeps}

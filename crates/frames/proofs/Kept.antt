@@ -1,7 +1,7 @@
 -- The one induction over the walk. A property of outcomes holds of the walk's if it holds at the end of the file and at a
 -- faulty record, wherever an invariant holds that each faultless record keeps. So an invariant holds of a good file's index.
-use Prim.Native.Nat.{ℕ, zero, suc, _+_, _≤_, _<_}
-use mathlib.Core.Path.{_≡_, refl, sym, _∙_}
+use Prim.Native.Nat.{ℕ, zero, suc, _+_, _<_}
+use mathlib.Core.Path.{_≡_, refl}
 use mathlib.Core.Bool.{Bool, true, false}
 use mathlib.Core.List.{List}
 use native.Mathlib.Omega.{arith}
@@ -61,7 +61,7 @@ end-ends : (Inv : Index → ℕ → Type 0) (f : List ℕ) (ix : Index) (o : ℕ
 unfolding atEnd endVerdict
 end-ends Inv f ix o i a b =
     pick-cases (λ v. v ≡ Good a b → (o : ℕ) × Inv ix o × (ix .owed ≡ false)) (ix .owed) (Refused NoProof (length f)) _
-      (λ t e. absurd (refused-not-good refl e)) (λ t e. (o, i, t))
+    (λ t e. absurd (refused-not-good refl e)) (λ t e. (o, i, t))
 
 -- an invariant that each faultless record keeps holds of a good file's index
 pub good-keeps : (f : List ℕ) (Inv : Index → ℕ → Type 0) → Inv nothing 0

@@ -17,3 +17,4 @@ pub mod Shapes
 pub mod Meaning
 pub mod GoodStatements
 pub mod GoodFacts
+pub mod Unique

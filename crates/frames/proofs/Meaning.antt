@@ -1,20 +1,20 @@
 -- The table's tests say what the facts say. A test reads the front of the index, as it was when the record was judged; what it
 -- reads there is what the whole index holds, so the test holds exactly when the fact holds of the decoded database.
-use Prim.Native.Nat.{ℕ, zero, suc, _≤_, _<_}
-use mathlib.Core.Path.{_≡_, refl, sym, ap, _∙_}
-use mathlib.Core.Bool.{Bool, true, false}
-use mathlib.Core.Logic.{_⊎_, inl, inr}
+use Prim.Native.Nat.{ℕ, _≤_, _<_}
+use mathlib.Core.Path.{_≡_, sym}
+use mathlib.Core.Bool.{true}
+use mathlib.Core.Logic.{inl, inr}
 use mathlib.Core.List.{List}
 use native.Mathlib.Omega.{arith}
 use lib.ListN.{length, take, getD, length-take}
-use lib.Seq.{getD-take, length-take-le}
-use Rattle.frames.specs.Logic.{below, equal, pick, either, both, no, any}
-use Rattle.frames.specs.Layout.{kindAt, classAt, scopeEndAt, symbolsAt, variableAt}
+use lib.Seq.{getD-take}
+use Rattle.frames.specs.Logic.{below}
+use Rattle.frames.specs.Layout.{classAt, variableAt}
 use Rattle.frames.specs.Table.{classOf, constant, variable, within, active, floats, floatsBelow, given, symbolGiven, allGiven}
 use Rattle.frames.specs.Verdict.{Index}
 use Rattle.frames.specs.Database.{symbolAt, statementAt, decode}
-use Rattle.frames.specs.Facts.{_∈_, symbolOf, statementOf, floated, Constant, Variable, Active, Floats, Given}
-use Rattle.frames.proofs.Chains.{pick-first, below-true, below-yes, equal-true, equal-yes, both-second, no-of-true}
+use Rattle.frames.specs.Facts.{_∈_, statementOf, floated, Constant, Variable, Active, Floats, Given}
+use Rattle.frames.proofs.Chains.{pick-first, below-true, below-yes, equal-true, equal-yes, both-second}
 use Rattle.frames.proofs.Tells.{true-not-false, both-true, either-cases, all-member, any-witness, no-true}
 use Rattle.frames.proofs.Kept.{pick-cases}
 use Rattle.frames.proofs.Decoded.{symbols-length, symbol-read, statement-read, supposes-kind}

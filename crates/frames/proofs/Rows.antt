@@ -3,9 +3,9 @@
 use Prim.Native.Nat.{ℕ}
 use mathlib.Core.Path.{_≡_}
 use mathlib.Core.Bool.{Bool, true, false}
-use mathlib.Core.List.{List, [], _∷_}
+use mathlib.Core.List.{List}
 use lib.ListN.{length}
-use Rattle.frames.specs.Logic.{equal, pick, either, both, no, oneOf, all, any, risingFrom}
+use Rattle.frames.specs.Logic.{equal, pick, either, both, no, all, any, risingFrom}
 use Rattle.frames.specs.Layout.{kindAt, asserts, isStatement, restAt, hypsAt, pairsAt, symbolsAt, typecodeAt, variableAt}
 use Rattle.frames.specs.Table.{nameByte, labelByte, used, badSymbol, badLabel, constant, variable, active, defined, variables, badNumbers, badReference, allGiven, hypFramed, equalMembers, badAssertion, badFrame, noProof}
 use Rattle.frames.proofs.Chains.{equal-yes, equal-true}

@@ -1,18 +1,18 @@
 -- How many symbols, hypotheses and pairs a record lists, by its kind; and what a strictly rising list is.
 use Prim.Native.Nat.{ℕ, zero, suc, _≤_, _<_}
-use mathlib.Core.Path.{_≡_, refl, sym, ap, _∙_}
+use mathlib.Core.Path.{_≡_, refl, sym, _∙_}
 use mathlib.Core.Bool.{Bool, true, false}
 use mathlib.Core.List.{List, [], _∷_, List·Memᴰ·not-nil}
 use native.Mathlib.Omega.{arith}
 use lib.ListN.{length, getD}
-use Rattle.frames.specs.Logic.{atMost, equal, pick, both, risingFrom, rows}
-use Rattle.frames.specs.Layout.{u16, u32, kindAt, asserts, listsSymbols, hypCount, pairCount, listedCount, listsFrom, pairsFrom, hypsAt, pairAt, pairsAt, symbolCount, symbolsFrom, symbolsAt}
+use Rattle.frames.specs.Logic.{atMost, equal, pick, risingFrom, rows}
+use Rattle.frames.specs.Layout.{u16, u32, kindAt, asserts, hypCount, pairCount, listedCount, listsFrom, pairsFrom, hypsAt, pairAt, pairsAt, symbolCount, symbolsFrom, symbolsAt}
 use Rattle.frames.specs.Table.{noSymbols}
 use Rattle.frames.specs.Facts.{_∈_}
-use Rattle.frames.proofs.Chains.{pick-first, pick-second, equal-yes, equal-false, atMost-true}
+use Rattle.frames.proofs.Chains.{pick-first, equal-yes, equal-false, atMost-true}
 use Rattle.frames.proofs.Tells.{both-true, both-false}
 use Rattle.frames.proofs.Loops.{length-rows}
-use Rattle.frames.proofs.Fine.{WellFormed, WithinLimits}
+use Rattle.frames.proofs.Fine.{WellFormed}
 use Rattle.frames.proofs.Kept.{pick-cases}
 use Rattle.frames.proofs.Decoded.{lists-yes}
 

@@ -1,20 +1,18 @@
 -- Names and labels. The rest of a well-formed record lies within the file, so a name or label has the size that row 1 tests;
 -- its bytes are what rows 3 and 4 test; and where each is new among those before it, no two are the same.
-use Prim.Native.Nat.{ℕ, zero, suc, _+_, _-_, _≤_, _<_}
-use mathlib.Core.Path.{_≡_, refl, sym, ap, _∙_}
-use mathlib.Core.Bool.{Bool, true, false}
-use mathlib.Core.Logic.{_⊎_, inl, inr}
-use mathlib.Core.List.{List, [], _∷_}
+use Prim.Native.Nat.{ℕ, _-_, _≤_, _<_}
+use mathlib.Core.Path.{_≡_, sym}
+use mathlib.Core.Bool.{true, false}
+use mathlib.Core.List.{List}
 use native.Mathlib.Omega.{arith}
 use native.Mathlib.Decide.{decLt}
 use lib.ListN.{length, take, drop, getD, length-take, length-drop}
 use lib.Seq.{getD-take}
-use Rattle.frames.specs.Logic.{all}
 use Rattle.frames.specs.Layout.{kindAt, nextAt, restFrom, restSize, restAt}
 use Rattle.frames.specs.Table.{badRest, nameByte, labelByte, used}
-use Rattle.frames.specs.Facts.{_∈_, NameByte, LabelByte, small, capital, digit, hyphen, underscore, dot}
+use Rattle.frames.specs.Facts.{NameByte, LabelByte, small, capital, digit, hyphen, underscore, dot}
 use Rattle.frames.proofs.Chains.{below-false, atMost-true, equal-true, equal-no, equal-false, no-of-false}
-use Rattle.frames.proofs.Tells.{true-not-false, both-true, both-false, either-false, no-true, all-member, oneOf-cases, oneOf-none}
+use Rattle.frames.proofs.Tells.{true-not-false, both-true, both-false, either-false, no-true, oneOf-cases, oneOf-none}
 use Rattle.frames.proofs.Found.{used-index}
 use Rattle.frames.proofs.Fine.{WellFormed}
 
