@@ -1,13 +1,12 @@
 -- The facts about the statements of a good file's database. Each follows from the row that judged the statement's record, with
 -- the symbols and the statements that were before it (`History`), by what the row's test means (`Meaning`). That no two listed
 -- $f have one variable: of two such, the later one would be given by the earlier, and row 6 forbids that.
-use Prim.Native.Nat.{ℕ, zero, suc, _≤_, _<_}
+use Prim.Native.Nat.{ℕ, _≤_, _<_}
 use mathlib.Core.Path.{_≡_, refl, sym, _∙_}
 use mathlib.Core.Bool.{true, false}
 use mathlib.Core.Logic.{_⊎_, inl, inr}
 use mathlib.Core.List.{List}
 use native.Mathlib.Omega.{arith}
-use native.Mathlib.Decide.{decLt}
 use lib.ListN.{length, take, drop, getD, length-take}
 use lib.Seq.{getD-take, length-take-le}
 use Rattle.frames.specs.Logic.{equal}
@@ -33,13 +32,9 @@ offset ix p = getD (ix .statements) p 0
 module _ (f : List ℕ) (ix : Index) (o : ℕ) (past : History f (ix .symbols) (ix .statements) false o) where
   -- at most 4,096 statements: the last one had room
   pub statements-few : length (ix .statements) ≤ 4096
-  statements-few = here (length (ix .statements)) refl
-    where
-      here : (n : ℕ) → length (ix .statements) ≡ n → n ≤ 4096
-      here zero e = omega arith
-      here (suc n) e =
-          let j = past .statement n (omega arith) in
-          omega (arith, length-take n (ix .statements), limits-kept f _ _ _ (j .faultless .limit-row) .statement-room (j .kind))
+  statements-few =
+      Shapes.had-room (ix .statements) 4096
+      (λ p h. let j = past .statement p h in limits-kept f _ _ _ (j .faultless .limit-row) .statement-room (j .kind))
 
   -- no two labels are the same
   pub labels-apart : (p q : ℕ) → p < length (ix .statements) → q < length (ix .statements)
@@ -112,12 +107,10 @@ module _ (f : List ℕ) (ix : Index) (o : ℕ) (past : History f (ix .symbols) (
 
     pub one-listed : (g g′ v : ℕ) → g ∈ hypsAt f (offset ix p) → g′ ∈ hypsAt f (offset ix p)
         → Floats (decode f ix) v g → Floats (decode f ix) v g′ → g ≡ g′
-    one-listed g g′ v m m′ a b = here (decLt g g′) (decLt g′ g)
-      where
-        here : Dec (g < g′) → Dec (g′ < g) → g ≡ g′
-        here (yes l) d = absurd (float-first g′ g v m′ m b a l)
-        here (no n) (yes l) = absurd (float-first g g′ v m m′ a b l)
-        here (no n) (no n′) = omega arith
+    one-listed g g′ v m m′ a b =
+        let not-earlier : g < g′ → ⊥ = float-first g′ g v m′ m b a in
+        let not-later : g′ < g → ⊥ = float-first g g′ v m m′ a b in
+        omega arith
 
     -- the proof of a $p has been read
     pub proof-read : kindAt f (offset ix p) ≡ 5 → ProofRead f (nextAt f (offset ix p))

@@ -5,7 +5,7 @@ use mathlib.Core.Bool.{Bool}
 use mathlib.Core.Logic.{_⊎_, inl, inr}
 use mathlib.Core.List.{List}
 use native.Mathlib.Omega.{arith}
-use lib.ListN.{length, getD, length-take}
+use lib.ListN.{length, getD}
 use Rattle.frames.specs.Layout.{kindAt, classAt, restAt}
 use Rattle.frames.specs.Table.{nameByte}
 use Rattle.frames.specs.Database.{symbolAt}
@@ -15,6 +15,7 @@ use Rattle.frames.proofs.Tells.{both-false, all-member}
 use Rattle.frames.proofs.Fine.{record-well-formed, limits-kept}
 use Rattle.frames.proofs.Rows.{symbol-fresh}
 use Rattle.frames.proofs.History.{History}
+use Rattle.frames.proofs.Shapes.{had-room}
 use Rattle.frames.proofs.Texts.{rest-sized, name-byte, fresh-differ}
 
 -- a class that is not above 1 is 0 or 1
@@ -26,13 +27,9 @@ class-cases (suc (suc k)) h = absurd (omega arith)
 module _ (f syms stmts : List ℕ) (owed : Bool) (o : ℕ) (past : History f syms stmts owed o) where
   -- at most 4,096 symbols: the last one had room
   pub symbols-few : length syms ≤ 4096
-  symbols-few = here (length syms) refl
-    where
-      here : (n : ℕ) → length syms ≡ n → n ≤ 4096
-      here zero e = omega arith
-      here (suc n) e =
-          let j = past .symbol n (omega arith) in
-          omega (arith, length-take n syms, limits-kept f _ _ _ (j .faultless .limit-row) .symbol-room (j .kind))
+  symbols-few =
+      had-room syms 4096
+      (λ s h. let j = past .symbol s h in limits-kept f _ _ _ (j .faultless .limit-row) .symbol-room (j .kind))
 
   -- the record of each symbol
   pub symbol-record : (s : ℕ) → s < length syms → SymbolFacts (symbolAt f (getD syms s 0))

@@ -4,20 +4,30 @@ use mathlib.Core.Path.{_≡_, refl, sym, _∙_}
 use mathlib.Core.Bool.{Bool, true, false}
 use mathlib.Core.List.{List, [], _∷_, List·Memᴰ·not-nil}
 use native.Mathlib.Omega.{arith}
-use lib.ListN.{length, getD}
+use lib.ListN.{length, take, getD, length-take}
 use Rattle.frames.specs.Logic.{atMost, equal, pick, risingFrom, rows}
 use Rattle.frames.specs.Layout.{u16, u32, kindAt, asserts, hypCount, pairCount, listedCount, listsFrom, pairsFrom, hypsAt, pairAt, pairsAt, symbolCount, symbolsFrom, symbolsAt}
 use Rattle.frames.specs.Table.{noSymbols}
 use Rattle.frames.specs.Facts.{_∈_}
 use Rattle.frames.proofs.Chains.{pick-first, equal-yes, equal-false, atMost-true}
-use Rattle.frames.proofs.Tells.{both-true, both-false}
+use Rattle.frames.proofs.Tells.{not-zero, both-true, both-false}
 use Rattle.frames.proofs.Loops.{length-rows}
 use Rattle.frames.proofs.Fine.{WellFormed}
 use Rattle.frames.proofs.Kept.{pick-cases}
 use Rattle.frames.proofs.Decoded.{lists-yes}
 
-not-zero : (n : ℕ) → (n ≡ 0 → ⊥) → 1 ≤ n
-not-zero n h = omega arith
+-- what lists nothing where the test fails, and has a member, passed the test
+listed-passes : {A : Type 0} {x : A} (xs : List A) (t : Bool) → (t ≡ false → xs ≡ []) → x ∈ xs → t ≡ true
+listed-passes xs true none m = refl
+listed-passes xs false none m = absurd (List·Memᴰ·not-nil (rw (none refl) at m))
+
+-- a list of which each member had room has no more than there is room for
+pub had-room : (xs : List ℕ) (most : ℕ) → ((i : ℕ) → i < length xs → length (take i xs) < most) → length xs ≤ most
+had-room xs most room = here (length xs) refl
+  where
+    here : (n : ℕ) → length xs ≡ n → n ≤ most
+    here zero e = omega arith
+    here (suc n) e = omega (arith, length-take n xs, room n (omega arith))
 
 module _ (f : List ℕ) (o : ℕ) where
   pub symbols-count : length (symbolsAt f o) ≡ symbolCount f o
@@ -62,18 +72,10 @@ module _ (f : List ℕ) (o : ℕ) where
   pairs-none e = rw e refl
 
   pub hyp-asserts : (h : ℕ) → h ∈ hypsAt f o → asserts (kindAt f o) ≡ true
-  hyp-asserts h m = here (asserts (kindAt f o)) refl
-    where
-      here : (t : Bool) → asserts (kindAt f o) ≡ t → t ≡ true
-      here true e = refl
-      here false e = absurd (List·Memᴰ·not-nil (rw (hyps-none e) at m))
+  hyp-asserts h m = listed-passes (hypsAt f o) (asserts (kindAt f o)) hyps-none m
 
   pub pair-asserts : (q : ℕ × ℕ) → q ∈ pairsAt f o → asserts (kindAt f o) ≡ true
-  pair-asserts q m = here (asserts (kindAt f o)) refl
-    where
-      here : (t : Bool) → asserts (kindAt f o) ≡ t → t ≡ true
-      here true e = refl
-      here false e = absurd (List·Memᴰ·not-nil (rw (pairs-none e) at m))
+  pair-asserts q m = listed-passes (pairsAt f o) (asserts (kindAt f o)) pairs-none m
 
 -- a rising list is nowhere below its bound
 rising-least : (low : ℕ) (xs : List ℕ) (i : ℕ) → risingFrom low xs ≡ true → i < length xs → low ≤ getD xs i 0

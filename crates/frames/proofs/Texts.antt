@@ -5,14 +5,13 @@ use mathlib.Core.Path.{_≡_, sym}
 use mathlib.Core.Bool.{true, false}
 use mathlib.Core.List.{List}
 use native.Mathlib.Omega.{arith}
-use native.Mathlib.Decide.{decLt}
 use lib.ListN.{length, take, drop, getD, length-take, length-drop}
 use lib.Seq.{getD-take}
 use Rattle.frames.specs.Layout.{kindAt, nextAt, restFrom, restSize, restAt}
 use Rattle.frames.specs.Table.{badRest, nameByte, labelByte, used}
 use Rattle.frames.specs.Facts.{NameByte, LabelByte, small, capital, digit, hyphen, underscore, dot}
 use Rattle.frames.proofs.Chains.{below-false, atMost-true, equal-true, equal-no, equal-false, no-of-false}
-use Rattle.frames.proofs.Tells.{true-not-false, both-true, both-false, either-false, no-true, oneOf-cases, oneOf-none}
+use Rattle.frames.proofs.Tells.{not-zero, true-not-false, both-true, both-false, either-false, no-true, oneOf-cases, oneOf-none}
 use Rattle.frames.proofs.Found.{used-index}
 use Rattle.frames.proofs.Fine.{WellFormed}
 
@@ -25,9 +24,6 @@ rest-length f o w = omega (arith, length-take (nextAt f o - restFrom f o) (drop 
 pub record Sized (text : List ℕ) : Type 0 where
   pub some : 1 ≤ length text
   pub most : length text ≤ 64
-
-not-zero : (n : ℕ) → (n ≡ 0 → ⊥) → 1 ≤ n
-not-zero n h = omega arith
 
 pub rest-sized : (f : List ℕ) (o : ℕ) → WellFormed f o → (kindAt f o ≡ 6 → ⊥) → Sized (restAt f o)
 unfolding badRest
@@ -67,9 +63,7 @@ module _ (f os : List ℕ) (fresh : (i : ℕ) → i < length os → used f (take
 
   -- and no two are the same
   pub fresh-differ : (i j : ℕ) → i < length os → j < length os → restAt f (getD os i 0) ≡ restAt f (getD os j 0) → i ≡ j
-  fresh-differ i j h g e = here (decLt i j) (decLt j i)
-    where
-      here : Dec (i < j) → Dec (j < i) → i ≡ j
-      here (yes l) d = absurd (fresh-later i j l g e)
-      here (no n) (yes l) = absurd (fresh-later j i l h (sym e))
-      here (no n) (no m) = omega arith
+  fresh-differ i j h g e =
+      let not-later : i < j → ⊥ = λ l. fresh-later i j l g e in
+      let not-earlier : j < i → ⊥ = λ l. fresh-later j i l h (sym e) in
+      omega arith

@@ -7,7 +7,7 @@ use mathlib.Core.List.{List}
 use native.Mathlib.Omega.{arith}
 use lib.ListN.{length}
 use Rattle.frames.specs.Logic.{below}
-use Rattle.frames.specs.Verdict.{Index, Outcome, nothing, refusal, endVerdict, atEnd, outcome, verdict, index}
+use Rattle.frames.specs.Verdict.{Index, nothing, refusal, endVerdict, atEnd, outcome, verdict, index}
 use Rattle.frames.specs.Database.{database, GoodFile}
 use Rattle.frames.specs.Check.{Checked}
 use Rattle.frames.specs.declared.Refusal.{Refusal}
@@ -23,57 +23,49 @@ pub checked-unique : (f syms stmts a a′ b b′ : List ℕ) (v w : Verdict) →
 checked-unique f syms stmts a a′ b b′ v w x y =
     (x .answers ∙ sym (y .answers), x .symbols-laid ∙ sym (y .symbols-laid), x .statements-laid ∙ sym (y .statements-laid))
 
+-- the verdict refuses the file, at a place of it
+pub record RefusedAt (f : List ℕ) (v : Verdict) : Type 0 where
+  pub why : Refusal
+  pub place : ℕ
+  pub is : v ≡ Refused why place
+  pub inside : place ≤ length f
+
 -- good, with the counts of the index, or refused at a place of the file
-abbrev pub Decides : List ℕ → Outcome → Type 0
-Decides f r =
-    (r .verdict ≡ Good (length (r .index .symbols)) (length (r .index .statements)))
-    ⊎ ((why : Refusal) × (place : ℕ) × (r .verdict ≡ Refused why place) × (place ≤ length f))
+abbrev Decides : List ℕ → Index → Verdict → Type 0
+Decides f ix v = (v ≡ Good (length (ix .symbols)) (length (ix .statements))) ⊎ RefusedAt f v
 
-refusal-decides : (f : List ℕ) (why : Refusal) (place : ℕ) (ix : Index) → place ≤ length f → Decides f (refusal why place ix)
+refusal-decides : (f : List ℕ) (why : Refusal) (place : ℕ) (ix : Index) → place ≤ length f
+    → Decides f (refusal why place ix .index) (refusal why place ix .verdict)
 unfolding refusal
-refusal-decides f why place ix h = inr (why, place, refl, h)
+refusal-decides f why place ix h = inr (record { why = why; place = place; is = refl; inside = h })
 
-end-decides : (f : List ℕ) (ix : Index) → Decides f (atEnd f ix)
+end-decides : (f : List ℕ) (ix : Index) → Decides f (atEnd f ix .index) (atEnd f ix .verdict)
 unfolding atEnd endVerdict
 end-decides f ix =
-    pick-cases
-    (λ v.
-    (v ≡ Good (length (ix .symbols)) (length (ix .statements)))
-    ⊎ ((why : Refusal) × (place : ℕ) × (v ≡ Refused why place) × (place ≤ length f)))
-    (ix .owed) (Refused NoProof (length f)) _ (λ t. inr (NoProof, length f, refl, omega arith)) (λ t. inl refl)
+    pick-cases (Decides f ix) (ix .owed) (Refused NoProof (length f)) _
+    (λ t. inr (record { why = NoProof; place = length f; is = refl; inside = omega arith })) (λ t. inl refl)
 
 pub verdict-decides : (f : List ℕ)
-    → (verdict f ≡ Good (length (index f .symbols)) (length (index f .statements)))
-    ⊎ ((why : Refusal) × (place : ℕ) × (verdict f ≡ Refused why place) × (place ≤ length f))
+    → (verdict f ≡ Good (length (index f .symbols)) (length (index f .statements))) ⊎ RefusedAt f (verdict f)
 unfolding verdict index outcome
 verdict-decides f =
-    pick-cases (Decides f) (below 1048576 (length f)) (refusal TooMany 0 nothing) _
+    pick-cases (λ r. Decides f (r .index) (r .verdict)) (below 1048576 (length f)) (refusal TooMany 0 nothing) _
     (λ t. refusal-decides f TooMany 0 nothing (omega arith))
     (λ t.
-    walk-is f (λ ix o. Unit {0}) (Decides f) (λ ix o i. end-decides f ix) (λ ix o why h i. refusal-decides f why o ix (omega arith))
-    (λ ix o h i fine. tt) (length f + 1) nothing 0 tt)
+    walk-is f (λ ix o. Unit {0}) (λ r. Decides f (r .index) (r .verdict)) (λ ix o i. end-decides f ix)
+    (λ ix o why h i. refusal-decides f why o ix (omega arith)) (λ ix o h i fine. tt) (length f + 1) nothing 0 tt)
 
--- the counts of the index are the numbers of the database
+-- the counts of the index are those of the database
 pub good-file : (f : List ℕ) → verdict f ≡ Good (length (index f .symbols)) (length (index f .statements)) → GoodFile f
 unfolding database
 good-file f e = record { is = rw (symbols-length f (index f), statements-length f (index f)) e }
 
--- so a file is good, or it is refused
-pub good-or-refused : (f : List ℕ) → GoodFile f ⊎ ((why : Refusal) × (place : ℕ) × (verdict f ≡ Refused why place) × (place ≤ length f))
-good-or-refused f = here (verdict-decides f)
-  where
-    here : (verdict f ≡ Good (length (index f .symbols)) (length (index f .statements)))
-        ⊎ ((why : Refusal) × (place : ℕ) × (verdict f ≡ Refused why place) × (place ≤ length f))
-        → GoodFile f ⊎ ((why : Refusal) × (place : ℕ) × (verdict f ≡ Refused why place) × (place ≤ length f))
-    here (inl e) = inl (good-file f e)
-    here (inr r) = inr r
-
 -- a file that is answered as good is good, and the answer counts its symbols and statements
 pub good-answer : (f : List ℕ) (a b : ℕ) → verdict f ≡ Good a b
     → GoodFile f × (a ≡ length (database f .symbols)) × (b ≡ length (database f .statements))
-good-answer f a b e = here (good-or-refused f)
+good-answer f a b e = here (verdict-decides f)
   where
-    here : GoodFile f ⊎ ((why : Refusal) × (place : ℕ) × (verdict f ≡ Refused why place) × (place ≤ length f))
+    here : (verdict f ≡ Good (length (index f .symbols)) (length (index f .statements))) ⊎ RefusedAt f (verdict f)
         → GoodFile f × (a ≡ length (database f .symbols)) × (b ≡ length (database f .statements))
-    here (inl g) = let h = g .is in (g, cc, cc)
-    here (inr r) = absurd (refused-not-good (r .2) e)
+    here (inl g) = let h = good-file f g .is in (good-file f g, cc, cc)
+    here (inr r) = absurd (refused-not-good (r .is) e)
