@@ -10,8 +10,8 @@ use native.Mathlib.Decide.{ℕ-discrete}
 use lib.ListN.{length, getD, length-map}
 use Rattle.frames.specs.Logic.{equal, either}
 use Rattle.frames.specs.Layout.{asserts, supposes, listsSymbols, isStatement}
-use Rattle.frames.specs.Verdict.{Index}
-use Rattle.frames.specs.Database.{symbolAt, statementAt, decode}
+use Rattle.frames.specs.Verdict.{Index, index}
+use Rattle.frames.specs.Database.{symbolAt, statementAt, decode, database}
 use Rattle.frames.specs.Facts.{symbolOf, statementOf}
 use Rattle.frames.proofs.Chains.{equal-yes, equal-no, equal-true, either-first, either-second}
 use Rattle.frames.proofs.Tells.{either-cases}
@@ -38,6 +38,26 @@ module _ (f : List ℕ) (ix : Index) where
       → statementOf (decode f ix) p ≡ statementAt f (getD (ix .statements) p 0)
   unfolding decode statementOf
   statement-read p h = getD-map (statementAt f) (ix .statements) p 0 _ h
+
+-- the same for the database of a file
+module _ (f : List ℕ) where
+  pub database-symbols : length (database f .symbols) ≡ length (index f .symbols)
+  unfolding database
+  database-symbols = symbols-length f (index f)
+
+  pub database-statements : length (database f .statements) ≡ length (index f .statements)
+  unfolding database
+  database-statements = statements-length f (index f)
+
+  pub database-symbol : (s : ℕ) → s < length (index f .symbols)
+      → symbolOf (database f) s ≡ symbolAt f (getD (index f .symbols) s 0)
+  unfolding database
+  database-symbol s h = symbol-read f (index f) s h
+
+  pub database-statement : (p : ℕ) → p < length (index f .statements)
+      → statementOf (database f) p ≡ statementAt f (getD (index f .statements) p 0)
+  unfolding database
+  database-statement p h = statement-read f (index f) p h
 
 -- the kinds of statements are 2 to 5
 pub kind-range : (k : ℕ) → isStatement k ≡ true → (2 ≤ k) × (k ≤ 5)

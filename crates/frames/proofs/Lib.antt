@@ -18,3 +18,4 @@ pub mod Meaning
 pub mod GoodStatements
 pub mod GoodFacts
 pub mod Unique
+pub mod InOrder
