@@ -5,4 +5,3 @@ pub mod Found
 pub mod Tables
 pub mod Tells
 pub mod Fine
-pub mod Walking

@@ -4,4 +4,3 @@ pub mod Table
 pub mod Verdict
 pub mod Search
 pub mod Database
-pub mod Check
