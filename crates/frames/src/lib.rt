@@ -2,6 +2,7 @@
 ghost use mathlib.Core.Path.{_≡_};
 ghost use Rattle.frames.specs.Verdict.{numberOf};
 
+pub mod fields;
 pub mod logic;
 pub mod numbers;
 pub mod read;
