@@ -1,3 +1,4 @@
+-- `filecheck::advance` meets its contract: field by field, from what the calls ensure.
 use Rattle.frames.proofs.Chains.{equal-eqb}
 use Rattle.frames.specs.Logic.{equal}
 use borrow.Author.Needs.{needs}

@@ -1,3 +1,4 @@
+-- `filecheck::check` meets its contract: a file that is too long is refused before its first record (`too-long`); any other is walked.
 use Rattle.filecheck.proofs.Walking.{too-long}
 use borrow.Author.Needs.{needs}
 use Rattle.filecheck.proofs.check.Statement.{statement}

@@ -1,3 +1,4 @@
+-- `filecheck::fault` meets its contract: the refusals are tried in their order; a test that fails is skipped (`unless-skip`), the first that holds decides (`unless-stop`).
 use Rattle.frames.proofs.Chains.{unless-skip, unless-stop}
 use Rattle.frames.specs.Verdict.{faultAt}
 use borrow.Author.Needs.{needs}

@@ -1,3 +1,4 @@
+-- `filecheck::judge` meets its contract: the parts in use are as long as the counts say.
 use borrow.Author.Needs.{needs}
 use lib.Seq.{length-take-le}
 use mathlib.Core.Path.{sym}

@@ -1,3 +1,4 @@
+-- `filecheck::lay` meets its contract: a store inside the table; past its end nothing is stored, and `set` changes nothing either.
 use borrow.Author.Needs.{needs}
 use lib.Seq.{set-out}
 use mathlib.Core.Path.{sym}

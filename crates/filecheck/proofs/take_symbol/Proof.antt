@@ -1,3 +1,4 @@
+-- `filecheck::take_symbol` meets its contract: each return is the case of the definition that the tests on the way to it pick.
 use Rattle.frames.proofs.Chains.{equal-no, equal-yes, pick-first, pick-second}
 use borrow.Author.Needs.{needs}
 use mathlib.Core.Path.{refl}

@@ -1,3 +1,5 @@
+-- `filecheck::walk_records` meets its contract: the invariant is `Walking`: the definition from here on, with what has been read, is the definition of the whole file. The measure is what is
+-- left of the file; a good record moves the walk on by at least 6 bytes (`next-further`).
 use Prim.Native.Nat.{_-_}
 use Rattle.filecheck.proofs.Walking.{Walking, next-further, next-inside, statements-length, symbols-length, walking-ends, walking-more, walking-none, walking-stops}
 use Rattle.frames.specs.Table.{given}

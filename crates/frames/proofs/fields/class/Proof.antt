@@ -3,9 +3,6 @@ use Rattle.frames.specs.Database.{symbolAt}
 use borrow.Author.Needs.{needs}
 use Rattle.frames.proofs.fields.class.Statement.{statement}
 use Rattle.frames.proofs.fields.class.Tie as tie
-use Rattle.frames.proofs.fields.class.Reads as reads
-use Rattle.frames.proofs.fields.class.Lts as lts
-use Rattle.frames.proofs.record.class_at.Reads as class-at-reads
 
 class-at-requires : tie.Need-class-at-requires
 class-at-requires c κs = search needs

@@ -6,9 +6,6 @@ use borrow.Author.Needs.{needs}
 use mathlib.Core.Path.{_∙_, sym}
 use Rattle.frames.proofs.fields.hypotheses.Statement.{statement}
 use Rattle.frames.proofs.fields.hypotheses.Tie as tie
-use Rattle.frames.proofs.fields.hypotheses.Reads as reads
-use Rattle.frames.proofs.fields.hypotheses.Lts as lts
-use Rattle.frames.proofs.record.hyp_count.Reads as hyp-count-reads
 
 hyp-count-requires : tie.Need-hyp-count-requires
 hyp-count-requires c κs = search needs

@@ -3,9 +3,6 @@ use Rattle.frames.specs.Database.{statementAt}
 use borrow.Author.Needs.{needs}
 use Rattle.frames.proofs.fields.hypothesis.Statement.{statement}
 use Rattle.frames.proofs.fields.hypothesis.Tie as tie
-use Rattle.frames.proofs.fields.hypothesis.Reads as reads
-use Rattle.frames.proofs.fields.hypothesis.Lts as lts
-use Rattle.frames.proofs.refer.hypothesis.Reads as hypothesis-reads
 
 hypothesis-requires : tie.Need-hypothesis-requires
 hypothesis-requires c κs = search needs

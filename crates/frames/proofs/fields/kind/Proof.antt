@@ -3,9 +3,6 @@ use Rattle.frames.specs.Database.{statementAt}
 use borrow.Author.Needs.{needs}
 use Rattle.frames.proofs.fields.kind.Statement.{statement}
 use Rattle.frames.proofs.fields.kind.Tie as tie
-use Rattle.frames.proofs.fields.kind.Reads as reads
-use Rattle.frames.proofs.fields.kind.Lts as lts
-use Rattle.frames.proofs.record.kind_at.Reads as kind-at-reads
 
 kind-at-requires : tie.Need-kind-at-requires
 kind-at-requires c κs = search needs

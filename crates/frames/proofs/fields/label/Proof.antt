@@ -3,9 +3,6 @@ use Rattle.frames.specs.Database.{statementAt}
 use borrow.Author.Needs.{needs}
 use Rattle.frames.proofs.fields.label.Statement.{statement}
 use Rattle.frames.proofs.fields.label.Tie as tie
-use Rattle.frames.proofs.fields.label.Reads as reads
-use Rattle.frames.proofs.fields.label.Lts as lts
-use Rattle.frames.proofs.record.rest_at.Reads as rest-at-reads
 
 rest-at-requires : tie.Need-rest-at-requires
 rest-at-requires c κs = search needs

@@ -3,9 +3,6 @@ use Rattle.frames.specs.Database.{symbolAt}
 use borrow.Author.Needs.{needs}
 use Rattle.frames.proofs.fields.name.Statement.{statement}
 use Rattle.frames.proofs.fields.name.Tie as tie
-use Rattle.frames.proofs.fields.name.Reads as reads
-use Rattle.frames.proofs.fields.name.Lts as lts
-use Rattle.frames.proofs.record.rest_at.Reads as rest-at-reads
 
 rest-at-requires : tie.Need-rest-at-requires
 rest-at-requires c κs = search needs

@@ -3,9 +3,6 @@ use Rattle.frames.specs.Database.{statementAt}
 use borrow.Author.Needs.{needs}
 use Rattle.frames.proofs.fields.pair_of.Statement.{statement}
 use Rattle.frames.proofs.fields.pair_of.Tie as tie
-use Rattle.frames.proofs.fields.pair_of.Reads as reads
-use Rattle.frames.proofs.fields.pair_of.Lts as lts
-use Rattle.frames.proofs.refer.pair_of.Reads as pair-of-reads
 
 pair-of-requires : tie.Need-pair-of-requires
 pair-of-requires c κs = search needs

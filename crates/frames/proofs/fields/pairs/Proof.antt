@@ -6,9 +6,6 @@ use borrow.Author.Needs.{needs}
 use mathlib.Core.Path.{_∙_, sym}
 use Rattle.frames.proofs.fields.pairs.Statement.{statement}
 use Rattle.frames.proofs.fields.pairs.Tie as tie
-use Rattle.frames.proofs.fields.pairs.Reads as reads
-use Rattle.frames.proofs.fields.pairs.Lts as lts
-use Rattle.frames.proofs.record.pair_count.Reads as pair-count-reads
 
 pair-count-requires : tie.Need-pair-count-requires
 pair-count-requires c κs = search needs

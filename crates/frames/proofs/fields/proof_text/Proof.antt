@@ -5,10 +5,6 @@ use borrow.Author.Needs.{needs}
 use mathlib.Core.Path.{_∙_, ap}
 use Rattle.frames.proofs.fields.proof_text.Statement.{statement}
 use Rattle.frames.proofs.fields.proof_text.Tie as tie
-use Rattle.frames.proofs.fields.proof_text.Reads as reads
-use Rattle.frames.proofs.fields.proof_text.Lts as lts
-use Rattle.frames.proofs.record.next_at.Reads as next-at-reads
-use Rattle.frames.proofs.record.rest_at.Reads as rest-at-reads
 
 next-at-requires : tie.Need-next-at-requires
 next-at-requires c κs = search needs

@@ -3,9 +3,6 @@ use Rattle.frames.specs.Database.{statementAt}
 use borrow.Author.Needs.{needs}
 use Rattle.frames.proofs.fields.scope_end.Statement.{statement}
 use Rattle.frames.proofs.fields.scope_end.Tie as tie
-use Rattle.frames.proofs.fields.scope_end.Reads as reads
-use Rattle.frames.proofs.fields.scope_end.Lts as lts
-use Rattle.frames.proofs.record.scope_end_at.Reads as scope-end-at-reads
 
 scope-end-at-requires : tie.Need-scope-end-at-requires
 scope-end-at-requires c κs = search needs

@@ -3,9 +3,6 @@ use Rattle.frames.specs.Database.{statementAt}
 use borrow.Author.Needs.{needs}
 use Rattle.frames.proofs.fields.symbol.Statement.{statement}
 use Rattle.frames.proofs.fields.symbol.Tie as tie
-use Rattle.frames.proofs.fields.symbol.Reads as reads
-use Rattle.frames.proofs.fields.symbol.Lts as lts
-use Rattle.frames.proofs.refer.symbol.Reads as symbol-reads
 
 symbol-requires : tie.Need-symbol-requires
 symbol-requires c κs = search needs

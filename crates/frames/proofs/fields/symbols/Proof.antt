@@ -6,9 +6,6 @@ use borrow.Author.Needs.{needs}
 use mathlib.Core.Path.{_∙_, sym}
 use Rattle.frames.proofs.fields.symbols.Statement.{statement}
 use Rattle.frames.proofs.fields.symbols.Tie as tie
-use Rattle.frames.proofs.fields.symbols.Reads as reads
-use Rattle.frames.proofs.fields.symbols.Lts as lts
-use Rattle.frames.proofs.record.symbol_count.Reads as symbol-count-reads
 
 symbol-count-requires : tie.Need-symbol-count-requires
 symbol-count-requires c κs = search needs

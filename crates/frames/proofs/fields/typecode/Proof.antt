@@ -3,9 +3,6 @@ use Rattle.frames.specs.Database.{statementAt}
 use borrow.Author.Needs.{needs}
 use Rattle.frames.proofs.fields.typecode.Statement.{statement}
 use Rattle.frames.proofs.fields.typecode.Tie as tie
-use Rattle.frames.proofs.fields.typecode.Reads as reads
-use Rattle.frames.proofs.fields.typecode.Lts as lts
-use Rattle.frames.proofs.refer.symbol.Reads as symbol-reads
 
 symbol-requires : tie.Need-symbol-requires
 symbol-requires c κs = search needs
