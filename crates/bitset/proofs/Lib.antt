@@ -5,4 +5,5 @@ pub mod Listed
 pub mod Joined
 pub mod Ahead
 pub mod Steps
+pub mod Promises
 pub mod Examples

@@ -1,7 +1,7 @@
 -- Sets of numbers as lists of words of 64 bits, of any length: word i holds the members from 64 * i up to 64 * i + 63.
 -- Nothing here says how many words there are.
 use mathlib.Core.Path.{_≡_}
-use mathlib.Core.Bool.{Bool, true, false}
+use mathlib.Core.Bool.{Bool, true, false, _||_}
 use mathlib.Core.List.{List, [], _∷_}
 use Prim.Native.Nat.{ℕ, zero, suc, _+_, _*_, _/_, _%_, _^_, _≤_, _<_}
 use lib.Dec.{eqb}
@@ -72,3 +72,25 @@ times n (x ∷ xs) = once (eqb x n) + times n xs
 pub data Rising : ℕ → List ℕ → Type 0 where
   none : {n : ℕ} → Rising n []
   next : {n x : ℕ} {xs : List ℕ} → n ≤ x → Rising (x + 1) xs → Rising n (x ∷ xs)
+
+-- the set has no member
+pub record Empty (ws : List ℕ) (k : ℕ) : Type 0 where
+  pub none : (m : ℕ) → member ws m ≡ false
+  pub is : ws ≡ empty k
+
+-- exactly n is added to the members of ws; a number that is not below the size is refused, and nothing changes
+pub record Added (ws : List ℕ) (n : ℕ) (now : List ℕ) : Type 0 where
+  pub exactly : n < size ws → (m : ℕ) → member now m ≡ (eqb m n || member ws m)
+  pub refused : size ws ≤ n → now ≡ ws
+  pub is : now ≡ insert ws n
+
+-- exactly the members of both
+pub record United (a b now : List ℕ) : Type 0 where
+  pub exactly : (m : ℕ) → member now m ≡ (member a m || member b m)
+  pub is : now ≡ union a b
+
+-- the answer is yes exactly when there is no member
+pub record TellsEmpty (ws : List ℕ) (answer : Bool) : Type 0 where
+  pub yes : answer ≡ true → (m : ℕ) → member ws m ≡ false
+  pub no : answer ≡ false → (m : ℕ) × (member ws m ≡ true)
+  pub is : answer ≡ isNil (members ws)

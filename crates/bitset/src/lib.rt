@@ -3,7 +3,7 @@
 // laws say what its members are (proofs/Laws.antt, proofs/Listed.antt). No method has a `requires`.
 ghost use mathlib.Core.Path.{_≡_};
 ghost use Prim.Native.Nat.{_%_, _^_};
-ghost use Rattle.bitset.specs.Sets.{member, empty, insert, union, members, isNil, Words};
+ghost use Rattle.bitset.specs.Sets.{member, members, Words, Empty, Added, United, TellsEmpty};
 ghost use Rattle.bitset.specs.Iter.{left, firstOf, restOf};
 
 // A set: bit n % 64 of word n / 64 says whether n is a member.
@@ -49,7 +49,7 @@ impl Bitset {
 
     // The set with no member.
     pub fn new() -> Self
-        ensures { λ r. do ⌜ r .words ≡ empty (← ⟦Bitset::WORDS⟧ .entry) ⌝ }
+        ensures { λ r. do ⌜ Empty (r .words) (← ⟦Bitset::WORDS⟧ .entry) ⌝ }
     {
         Bitset {
             words: [0u64; Bitset::WORDS],
@@ -58,7 +58,7 @@ impl Bitset {
 
     // The set with `bit` added. A number of BITS or more is refused: the set comes back as it was.
     pub fn set_bit(mut self, bit: usize) -> Self
-        ensures adds { λ r. ⌜ r .words ≡ insert (self .words) bit ⌝ }
+        ensures adds { λ r. ⌜ Added (self .words) bit (r .words) ⌝ }
         ensures words { λ r. do ⌜ Words (← ⟦Bitset::BITS⟧ .entry) (self .words) ⌝ }
     {
         if bit < Bitset::BITS {
@@ -83,7 +83,7 @@ impl Bitset {
     // `has_bit` and `set_bit` at once: the old membership of `bit`, and the set with it.
     pub fn replace_bit(self, bit: usize) -> Replaced
         ensures tells { λ r. ⌜ r .old ≡ member (self .words) bit ⌝ }
-        ensures adds { λ r. ⌜ r .set .words ≡ insert (self .words) bit ⌝ }
+        ensures adds { λ r. ⌜ Added (self .words) bit (r .set .words) ⌝ }
         ensures words { λ r. do ⌜ Words (← ⟦Bitset::BITS⟧ .entry) (self .words) ⌝ }
     {
         let set = self.set_bit(bit);
@@ -93,7 +93,7 @@ impl Bitset {
 
     // Whether the set has no member.
     pub fn is_empty(self) -> bool
-        ensures tells { λ r. ⌜ r ≡ isNil (members (self .words)) ⌝ }
+        ensures tells { λ r. ⌜ TellsEmpty (self .words) r ⌝ }
         ensures words { λ r. do ⌜ Words (← ⟦Bitset::BITS⟧ .entry) (self .words) ⌝ }
     {
         let mut i = 0;
@@ -108,7 +108,7 @@ impl Bitset {
 
     // The set of what is a member of one or of the other.
     pub fn union(self, other: Bitset) -> Self
-        ensures joins { λ r. ⌜ r .words ≡ union (self .words) (other .words) ⌝ }
+        ensures joins { λ r. ⌜ United (self .words) (other .words) (r .words) ⌝ }
         ensures words { λ r. do ⌜ Words (← ⟦Bitset::BITS⟧ .entry) (self .words) ⌝ }
         ensures others { λ r. do ⌜ Words (← ⟦Bitset::BITS⟧ .entry) (other .words) ⌝ }
     {

@@ -29,7 +29,7 @@ fn answer(input: &[u8]) -> Verdict
     }
     let mut symbols = [0u32; 4096];
     let mut statements = [0u32; 4096];
-    frames::check(input, &mut symbols, &mut statements)
+    filecheck::check(input, &mut symbols, &mut statements)
 }
 
 // Puts the line that answers an input at the start of out, and answers how many bytes it has.

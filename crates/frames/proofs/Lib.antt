@@ -5,7 +5,6 @@ pub mod Found
 pub mod Tables
 pub mod Tells
 pub mod Fine
-pub mod Walking
 pub mod Examples
 pub mod Kept
 pub mod Rows

@@ -7,9 +7,8 @@ use mathlib.Core.List.{List}
 use native.Mathlib.Omega.{arith}
 use lib.ListN.{length}
 use Rattle.frames.specs.Logic.{below}
-use Rattle.frames.specs.Verdict.{Index, nothing, refusal, endVerdict, atEnd, outcome, verdict, index}
+use Rattle.frames.specs.Verdict.{Index, nothing, refusal, endVerdict, atEnd, outcome, verdict, index, Checked}
 use Rattle.frames.specs.Database.{database, GoodFile}
-use Rattle.frames.specs.Check.{Checked}
 use Rattle.frames.specs.declared.Refusal.{Refusal}
 use Rattle.frames.specs.declared.Refusal.the-variants.{TooMany, NoProof}
 use Rattle.frames.specs.declared.Verdict.{Verdict}

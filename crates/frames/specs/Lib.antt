@@ -4,5 +4,4 @@ pub mod Table
 pub mod Verdict
 pub mod Search
 pub mod Database
-pub mod Check
 pub mod Facts

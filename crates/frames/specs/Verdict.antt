@@ -1,6 +1,7 @@
 -- The verdict on a list of bytes, and the index of the file: the records are judged one after another, the first faulty one
 -- decides, and in it the lowest number. Every list of bytes has exactly one verdict, since `verdict` is a function.
 use Prim.Native.Nat.{ℕ, zero, suc, _+_}
+use mathlib.Core.Path.{_≡_}
 use mathlib.Core.Bool.{Bool, true, false}
 use mathlib.Core.List.{List, [], _∷_, _++_}
 use lib.ListN.{length, drop}
@@ -106,3 +107,10 @@ index f = outcome f .index
 -- a table whose front is these offsets, and whose other entries are as they were
 unfoldable pub laid : List ℕ → List ℕ → List ℕ
 laid offsets table = offsets ++ drop (length offsets) table
+
+-- what the file check promises: the answer is the file's verdict; the front of each table holds the offsets of the symbols and of the statements that were
+-- read, in file order, and its other entries are as they were
+pub record Checked (f syms stmts syms′ stmts′ : List ℕ) (answer : Verdict) : Type 0 where
+  pub answers : answer ≡ verdict f
+  pub symbols-laid : syms′ ≡ laid (index f .symbols) syms
+  pub statements-laid : stmts′ ≡ laid (index f .statements) stmts

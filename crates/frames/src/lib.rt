@@ -2,16 +2,13 @@
 ghost use mathlib.Core.Path.{_≡_};
 ghost use Rattle.frames.specs.Verdict.{numberOf};
 
-mod logic;
-mod numbers;
-mod read;
-mod record;
-mod refer;
-mod table;
-mod text;
-mod walk;
-
-pub use walk::check;
+pub mod fields;
+pub mod logic;
+pub mod numbers;
+pub mod read;
+pub mod record;
+pub mod refer;
+pub mod text;
 
 // Why a frame file is turned away.
 pub enum Refusal {

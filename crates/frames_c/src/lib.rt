@@ -27,5 +27,5 @@ pub extern "C" fn frames_check(
 )
     ensures { λ r. ⌜ Answered (now (file .entry)) (now (symbols .entry)) (now (statements .entry)) (now (symbols .exit)) (now (statements .exit)) (now (answer .exit)) ⌝ }
 {
-    *answer = answer_of(frames::check(file, symbols, statements));
+    *answer = answer_of(filecheck::check(file, symbols, statements));
 }

@@ -127,7 +127,7 @@ fn judge(buffer: &[u8], len: usize) {
         let mut statements = [0u32; 4096];
         verdict_text::print(
             STDOUT_FILENO,
-            frames::check(&buffer[..len], &mut symbols, &mut statements),
+            filecheck::check(&buffer[..len], &mut symbols, &mut statements),
         );
     } else {
         io::write_all(STDOUT_FILENO, b"is longer than the buffer\n");

@@ -23,7 +23,7 @@ returns c =
     let old = s .1 .sized in
     let new = h .1 .sized in
     let n = c .before .before .args .n in (
-      λ l. h .0 ∙ ap (λ (ws : List ℕ). member ws n) (s .0) ∙ insert-same (c .before .before .args .set .words) n (omega arith),
+      λ l. h .0 ∙ ap (λ (ws : List ℕ). member ws n) (s .0 .is) ∙ insert-same (c .before .before .args .set .words) n (omega arith),
       (λ l. h .0 ∙ past-size (c .before .set-bit .result .words) n (omega arith)),
     )
 

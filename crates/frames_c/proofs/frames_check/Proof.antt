@@ -14,11 +14,11 @@ answer-of-requires c κs = search needs
 returns : tie.Need-returns
 returns c =
     let k = c .before .check .ensures in
-    record
-      { answers = c .answer-of .ensures ∙ ap answerOf (k .answers)
-      ; symbols-laid = k .symbols-laid
-      ; statements-laid = k .statements-laid
-      }
+    record {
+      answers = c .answer-of .ensures ∙ ap answerOf (k .answers);
+      symbols-laid = k .symbols-laid;
+      statements-laid = k .statements-laid;
+    }
 
 pub frames-check-spec : {M : Type 1} → statement M
 frames-check-spec = tie.close (tie.spec check-requires answer-of-requires returns)

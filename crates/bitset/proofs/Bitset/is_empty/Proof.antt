@@ -9,6 +9,7 @@ use lib.ListN.{length, getD}
 use Rattle.bitset.specs.Sets.{Words}
 use Rattle.bitset.proofs.Laws.{array-words}
 use Rattle.bitset.proofs.Listed.{zero-words, some-word}
+use Rattle.bitset.proofs.Promises.{empty-told}
 use Rattle.bitset.proofs.Bitset.is_empty.Statement.{statement}
 use Rattle.bitset.proofs.Bitset.is_empty.Tie as tie
 
@@ -33,7 +34,7 @@ element-copy-out-if1 c = search needs
 returns : tie.Need-returns Inv-loop μ-loop
 returns c =
     let w = words (c .before .before .before .before) in
-    (sym (some-word (c .before .before .before .loop .i) w (c .if1 .taken)), w)
+    (empty-told _ _ (sym (some-word (c .before .before .before .loop .i) w (c .if1 .taken))), w)
 
 add-i : tie.Need-add-i Inv-loop μ-loop
 add-i c = search needs
@@ -47,7 +48,7 @@ loop-again c = (search needs, below-more _ _ (c .before .before .before .loop .i
 returns-2 : tie.Need-returns-2 Inv-loop μ-loop
 returns-2 c =
     let l : length (c .before .before .args .t1 .words) ≡ 4 = search needs in
-    (sym (zero-words (c .before .before .args .t1 .words) (λ k h. c .before .loop .inv .1 k (omega arith))), words (c .before .before))
+    (empty-told _ _ (sym (zero-words (c .before .before .args .t1 .words) (λ k h. c .before .loop .inv .1 k (omega arith)))), words (c .before .before))
 
 pub is-empty-spec : {M : Type 1} → statement M
 is-empty-spec =

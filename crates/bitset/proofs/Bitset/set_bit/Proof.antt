@@ -7,6 +7,7 @@ use lib.Bits.{bitOr}
 use lib.ListN.{getD, set}
 use Rattle.bitset.specs.Sets.{insert, Words}
 use Rattle.bitset.proofs.Laws.{array-words, insert-refused}
+use Rattle.bitset.proofs.Promises.{added-promise}
 use Rattle.bitset.proofs.Bitset.set_bit.Statement.{statement}
 use Rattle.bitset.proofs.Bitset.set_bit.Tie as tie
 
@@ -32,7 +33,8 @@ returns : tie.Need-returns
 unfolding insert
 returns c =
     let a = c .before .before .before .args in (
-      ap (λ (m : ℕ). set (a .t1 .words) (a .bit / 64) (bitOr (getD (a .t1 .words) (a .bit / 64) 0) m)) (c .mask .ensures),
+      added-promise _ _ _
+          (ap (λ (m : ℕ). set (a .t1 .words) (a .bit / 64) (bitOr (getD (a .t1 .words) (a .bit / 64) 0) m)) (c .mask .ensures)),
       words (c .before .before .before),
     )
 
@@ -40,7 +42,7 @@ returns-2 : tie.Need-returns-2
 returns-2 c =
     let w = words (c .before) in
     let s = w .sized in
-    (sym (insert-refused (c .before .args .t1 .words) (c .before .args .bit) (omega arith)), w)
+    (added-promise _ _ _ (sym (insert-refused (c .before .args .t1 .words) (c .before .args .bit) (omega arith))), w)
 
 pub set-bit-spec : {M : Type 1} → statement M
 set-bit-spec =

@@ -7,6 +7,7 @@ use borrow.Author.Needs.{needs}
 use lib.ListN.{length}
 use Rattle.bitset.proofs.Laws.{array-words}
 use Rattle.bitset.proofs.Joined.{Joined, joined-none, joined-more, joined-all}
+use Rattle.bitset.proofs.Promises.{united-promise}
 use Rattle.bitset.proofs.Bitset.union.Statement.{statement}
 use Rattle.bitset.proofs.Bitset.union.Tie as tie
 
@@ -52,7 +53,7 @@ returns : tie.Need-returns Inv-loop μ-loop
 returns c =
     let a : length (c .before .before .args .self .words) ≡ 4 = search needs in
     let b : length (c .before .before .args .t2 .words) ≡ 4 = search needs in
-    (joined-all (omega arith) (a ∙ sym b) (c .before .loop .inv .2), (array-words 4 _ a (λ i. search needs), array-words 4 _ b (λ i. search needs)))
+    (united-promise _ _ _ (joined-all (omega arith) (a ∙ sym b) (c .before .loop .inv .2)), (array-words 4 _ a (λ i. search needs), array-words 4 _ b (λ i. search needs)))
 
 pub union-spec : {M : Type 1} → statement M
 union-spec =

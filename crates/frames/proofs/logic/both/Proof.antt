@@ -1,9 +1,8 @@
+-- `frames::logic::both` meets its contract: each return is the case of the definition that the tests on the way to it pick.
 use Rattle.frames.proofs.Chains.{both-first, both-second}
 use mathlib.Core.Path.{refl}
 use Rattle.frames.proofs.logic.both.Statement.{statement}
 use Rattle.frames.proofs.logic.both.Tie as tie
-use Rattle.frames.proofs.logic.both.Reads as reads
-use Rattle.frames.proofs.logic.both.Lts as lts
 
 returns : tie.Need-returns
 returns c = both-second (c .if1 .taken) refl

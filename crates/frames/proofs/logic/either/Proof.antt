@@ -1,9 +1,8 @@
+-- `frames::logic::either` meets its contract: each return is the case of the definition that the tests on the way to it pick.
 use Rattle.frames.proofs.Chains.{either-first, either-second}
 use mathlib.Core.Path.{refl}
 use Rattle.frames.proofs.logic.either.Statement.{statement}
 use Rattle.frames.proofs.logic.either.Tie as tie
-use Rattle.frames.proofs.logic.either.Reads as reads
-use Rattle.frames.proofs.logic.either.Lts as lts
 
 returns : tie.Need-returns
 returns c = either-first _ (c .if1 .taken) refl

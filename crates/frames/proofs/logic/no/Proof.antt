@@ -1,9 +1,8 @@
+-- `frames::logic::no` meets its contract: each return is the case of the definition that the tests on the way to it pick.
 use Rattle.frames.proofs.Chains.{no-first, no-second}
 use mathlib.Core.Path.{refl}
 use Rattle.frames.proofs.logic.no.Statement.{statement}
 use Rattle.frames.proofs.logic.no.Tie as tie
-use Rattle.frames.proofs.logic.no.Reads as reads
-use Rattle.frames.proofs.logic.no.Lts as lts
 
 returns : tie.Need-returns
 returns c = no-first (c .if1 .taken) refl

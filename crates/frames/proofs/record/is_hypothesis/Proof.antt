@@ -1,3 +1,4 @@
+-- `frames::record::is_hypothesis` meets its contract: each return is the case of the definition that the tests on the way to it pick.
 use borrow.Author.Needs.{needs}
 use Rattle.frames.proofs.Chains.{equal-yes, equal-no, either-first, either-second}
 use mathlib.Core.Path.{refl}
@@ -5,15 +6,11 @@ use Rattle.frames.specs.Logic.{equal}
 use Rattle.frames.specs.Layout.{supposes}
 use Rattle.frames.proofs.record.is_hypothesis.Statement.{statement}
 use Rattle.frames.proofs.record.is_hypothesis.Tie as tie
-use Rattle.frames.proofs.record.is_hypothesis.Reads as reads
-use Rattle.frames.proofs.record.is_hypothesis.Lts as lts
 
--- src/record.rt:33:9
 returns : tie.Need-returns
 unfolding supposes
 returns c = either-first _ (equal-yes (c .if1 .taken)) refl
 
--- src/record.rt:29:1
 returns-2 : tie.Need-returns-2
 unfolding supposes equal
 returns-2 c = either-second (equal-no (c .if1 .left)) refl

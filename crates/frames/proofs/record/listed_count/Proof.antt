@@ -1,36 +1,26 @@
+-- `frames::record::listed_count` meets its contract: each return is the case of the definition that the tests on the way to it pick.
 use Rattle.frames.proofs.Chains.{pick-first, pick-second}
 use Rattle.frames.specs.Layout.{listedCount}
 use borrow.Author.Needs.{needs}
 use Rattle.frames.proofs.record.listed_count.Statement.{statement}
 use Rattle.frames.proofs.record.listed_count.Tie as tie
-use Rattle.frames.proofs.record.listed_count.Reads as reads
-use Rattle.frames.proofs.record.listed_count.Lts as lts
-use Rattle.frames.proofs.read.u16_at.Reads as u16-at-reads
-use Rattle.frames.proofs.record.kind_at.Reads as kind-at-reads
-use Rattle.frames.proofs.record.lists_symbols.Reads as lists-symbols-reads
 
--- src/record.rt:109:22
 kind-at-requires : tie.Need-kind-at-requires
 kind-at-requires c κs = search needs
 
--- src/record.rt:109:8
 lists-symbols-requires : tie.Need-lists-symbols-requires
 lists-symbols-requires c κs = search needs
 
--- src/record.rt:110:29
 add-u16-at : tie.Need-add-u16-at
 add-u16-at c = search needs
 
--- src/record.rt:110:9
 u16-at-requires : tie.Need-u16-at-requires
 u16-at-requires c κs = search needs
 
--- src/record.rt:110:9
 returns : tie.Need-returns
 unfolding listedCount
 returns c = (pick-first _ (cc) (cc), search needs)
 
--- src/record.rt:106:1
 returns-2 : tie.Need-returns-2
 unfolding listedCount
 returns-2 c = (pick-second _ (cc) (cc), search needs)

@@ -1,23 +1,18 @@
+-- `frames::record::lists_symbols` meets its contract: each return is the case of the definition that the tests on the way to it pick.
 use Rattle.frames.proofs.Chains.{equal-yes, equal-no, either-first, either-second}
 use mathlib.Core.Path.{refl}
 use Rattle.frames.specs.Layout.{listsSymbols}
 use borrow.Author.Needs.{needs}
 use Rattle.frames.proofs.record.lists_symbols.Statement.{statement}
 use Rattle.frames.proofs.record.lists_symbols.Tie as tie
-use Rattle.frames.proofs.record.lists_symbols.Reads as reads
-use Rattle.frames.proofs.record.lists_symbols.Lts as lts
-use Rattle.frames.proofs.record.is_assertion.Reads as is-assertion-reads
 
--- src/record.rt:43:9
 returns : tie.Need-returns
 unfolding listsSymbols
 returns c = either-first _ (equal-yes (c .if1 .taken)) refl
 
--- src/record.rt:45:5
 is-assertion-requires : tie.Need-is-assertion-requires
 is-assertion-requires c κs = search needs
 
--- src/record.rt:39:1
 returns-2 : tie.Need-returns-2
 unfolding listsSymbols
 returns-2 c = either-second (equal-no (c .before .if1 .left)) (cc)

@@ -1,36 +1,26 @@
+-- `frames::record::pair_count` meets its contract: each return is the case of the definition that the tests on the way to it pick.
 use Rattle.frames.proofs.Chains.{pick-first, pick-second}
 use Rattle.frames.specs.Layout.{pairCount}
 use borrow.Author.Needs.{needs}
 use Rattle.frames.proofs.record.pair_count.Statement.{statement}
 use Rattle.frames.proofs.record.pair_count.Tie as tie
-use Rattle.frames.proofs.record.pair_count.Reads as reads
-use Rattle.frames.proofs.record.pair_count.Lts as lts
-use Rattle.frames.proofs.read.u16_at.Reads as u16-at-reads
-use Rattle.frames.proofs.record.is_assertion.Reads as is-assertion-reads
-use Rattle.frames.proofs.record.kind_at.Reads as kind-at-reads
 
--- src/record.rt:100:21
 kind-at-requires : tie.Need-kind-at-requires
 kind-at-requires c κs = search needs
 
--- src/record.rt:100:8
 is-assertion-requires : tie.Need-is-assertion-requires
 is-assertion-requires c κs = search needs
 
--- src/record.rt:101:29
 add-u16-at : tie.Need-add-u16-at
 add-u16-at c = search needs
 
--- src/record.rt:101:9
 u16-at-requires : tie.Need-u16-at-requires
 u16-at-requires c κs = search needs
 
--- src/record.rt:101:9
 returns : tie.Need-returns
 unfolding pairCount
 returns c = (pick-first _ (cc) (cc), search needs)
 
--- src/record.rt:97:1
 returns-2 : tie.Need-returns-2
 unfolding pairCount
 returns-2 c = (pick-second _ (cc) (cc), search needs)

@@ -1,27 +1,20 @@
+-- `frames::record::symbol_count` meets its contract: each return is the case of the definition that the tests on the way to it pick.
 use Rattle.frames.proofs.Chains.{equal-yes, equal-no, pick-first, pick-second}
 use Rattle.frames.specs.Layout.{symbolCount}
 use borrow.Author.Needs.{needs}
 use Rattle.frames.proofs.record.symbol_count.Statement.{statement}
 use Rattle.frames.proofs.record.symbol_count.Tie as tie
-use Rattle.frames.proofs.record.symbol_count.Reads as reads
-use Rattle.frames.proofs.record.symbol_count.Lts as lts
-use Rattle.frames.proofs.record.kind_at.Reads as kind-at-reads
-use Rattle.frames.proofs.record.listed_count.Reads as listed-count-reads
 
--- src/record.rt:164:8
 kind-at-requires : tie.Need-kind-at-requires
 kind-at-requires c κs = search needs
 
--- src/record.rt:165:9
 returns : tie.Need-returns
 unfolding symbolCount
 returns c = (pick-first _ (equal-yes (cc)) (cc), search needs)
 
--- src/record.rt:167:5
 listed-count-requires : tie.Need-listed-count-requires
 listed-count-requires c κs = search needs
 
--- src/record.rt:161:1
 returns-2 : tie.Need-returns-2
 unfolding symbolCount
 returns-2 c = (pick-second _ (equal-no (λ e. c .before .if1 .left (cc))) (cc), search needs)

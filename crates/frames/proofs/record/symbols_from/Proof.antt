@@ -1,31 +1,23 @@
+-- `frames::record::symbols_from` meets its contract: each return is the case of the definition that the tests on the way to it pick.
 use Rattle.frames.proofs.Chains.{equal-yes, equal-no, pick-first, pick-second}
 use Rattle.frames.specs.Layout.{symbolsFrom}
 use borrow.Author.Needs.{needs}
 use Rattle.frames.proofs.record.symbols_from.Statement.{statement}
 use Rattle.frames.proofs.record.symbols_from.Tie as tie
-use Rattle.frames.proofs.record.symbols_from.Reads as reads
-use Rattle.frames.proofs.record.symbols_from.Lts as lts
-use Rattle.frames.proofs.record.kind_at.Reads as kind-at-reads
-use Rattle.frames.proofs.record.listed_from.Reads as listed-from-reads
 
--- src/record.rt:173:8
 kind-at-requires : tie.Need-kind-at-requires
 kind-at-requires c κs = search needs
 
--- src/record.rt:174:16
 add-result : tie.Need-add-result
 add-result c = search needs
 
--- src/record.rt:174:9
 returns : tie.Need-returns
 unfolding symbolsFrom
 returns c = (pick-first _ (equal-yes (cc)) (cc), search needs)
 
--- src/record.rt:176:5
 listed-from-requires : tie.Need-listed-from-requires
 listed-from-requires c κs = search needs
 
--- src/record.rt:170:1
 returns-2 : tie.Need-returns-2
 unfolding symbolsFrom
 returns-2 c = (pick-second _ (equal-no (λ e. c .before .if1 .left (cc))) (cc), search needs)

@@ -1,3 +1,4 @@
+-- `frames::refer::class_of` meets its contract: each return is the case of the definition that the tests on the way to it pick.
 use Rattle.frames.proofs.Chains.{below-no, below-yes, pick-first, pick-second}
 use Rattle.frames.specs.Table.{classOf}
 use borrow.Author.Needs.{needs}
@@ -5,9 +6,6 @@ use mathlib.Core.Path.{refl}
 use native.Mathlib.Omega.{arith}
 use Rattle.frames.proofs.refer.class_of.Statement.{statement}
 use Rattle.frames.proofs.refer.class_of.Tie as tie
-use Rattle.frames.proofs.refer.class_of.Reads as reads
-use Rattle.frames.proofs.refer.class_of.Lts as lts
-use Rattle.frames.proofs.record.class_at.Reads as class-at-reads
 
 mul-class-at : tie.Need-mul-class-at
 mul-class-at c = search needs

@@ -1,10 +1,9 @@
+-- `frames::refer::entry` meets its contract: inside the table the entry is read, past its end 0.
 use Rattle.frames.proofs.Loops.{getD-past}
 use borrow.Author.Needs.{needs}
 use native.Mathlib.Omega.{arith}
 use Rattle.frames.proofs.refer.entry.Statement.{statement}
 use Rattle.frames.proofs.refer.entry.Tie as tie
-use Rattle.frames.proofs.refer.entry.Reads as reads
-use Rattle.frames.proofs.refer.entry.Lts as lts
 
 mul-result : tie.Need-mul-result
 mul-result c = search needs

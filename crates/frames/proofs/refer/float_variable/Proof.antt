@@ -1,10 +1,8 @@
+-- `frames::refer::float_variable` meets its contract: the variable of a $f is symbol 1.
 use Rattle.frames.specs.Layout.{variableAt}
 use borrow.Author.Needs.{needs}
 use Rattle.frames.proofs.refer.float_variable.Statement.{statement}
 use Rattle.frames.proofs.refer.float_variable.Tie as tie
-use Rattle.frames.proofs.refer.float_variable.Reads as reads
-use Rattle.frames.proofs.refer.float_variable.Lts as lts
-use Rattle.frames.proofs.refer.symbol.Reads as symbol-reads
 
 symbol-requires : tie.Need-symbol-requires
 symbol-requires c κs = search needs

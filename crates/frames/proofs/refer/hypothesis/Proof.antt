@@ -1,14 +1,10 @@
+-- `frames::refer::hypothesis` meets its contract: inside the list the reader stands where `here-rows` says, past its end the default is read.
 use Rattle.frames.proofs.Loops.{here-getD, here-rows, rows-past}
 use Rattle.frames.specs.Layout.{hypCount, hypsAt, listsFrom, u32}
 use borrow.Author.Needs.{needs}
 use native.Mathlib.Omega.{arith}
 use Rattle.frames.proofs.refer.hypothesis.Statement.{statement}
 use Rattle.frames.proofs.refer.hypothesis.Tie as tie
-use Rattle.frames.proofs.refer.hypothesis.Reads as reads
-use Rattle.frames.proofs.refer.hypothesis.Lts as lts
-use Rattle.frames.proofs.read.u32_at.Reads as u32-at-reads
-use Rattle.frames.proofs.record.hyp_count.Reads as hyp-count-reads
-use Rattle.frames.proofs.record.lists_from.Reads as lists-from-reads
 
 hyp-count-requires : tie.Need-hyp-count-requires
 hyp-count-requires c κs = search needs

@@ -1,3 +1,4 @@
+-- `frames::refer::is_active` meets its contract: each return is the case of the definition that the tests on the way to it pick.
 use Rattle.frames.proofs.Chains.{below-no, below-yes, both-first, both-second}
 use Rattle.frames.specs.Table.{active}
 use borrow.Author.Needs.{needs}
@@ -6,13 +7,6 @@ use mathlib.Core.Path.{refl}
 use native.Mathlib.Omega.{arith}
 use Rattle.frames.proofs.refer.is_active.Statement.{statement}
 use Rattle.frames.proofs.refer.is_active.Tie as tie
-use Rattle.frames.proofs.refer.is_active.Reads as reads
-use Rattle.frames.proofs.refer.is_active.Lts as lts
-use Rattle.frames.proofs.record.is_hypothesis.Reads as is-hypothesis-reads
-use Rattle.frames.proofs.record.kind_at.Reads as kind-at-reads
-use Rattle.frames.proofs.record.scope_end_at.Reads as scope-end-at-reads
-use Rattle.frames.proofs.refer.entry.Reads as entry-reads
-use Rattle.frames.proofs.refer.reaches.Reads as reaches-reads
 
 returns : tie.Need-returns
 unfolding active

@@ -1,14 +1,10 @@
+-- `frames::refer::is_float_of` meets its contract: each return is the case of the definition that the tests on the way to it pick.
 use Rattle.frames.proofs.Chains.{both-first, both-second, equal-eqb, equal-no, equal-yes}
 use Rattle.frames.specs.Table.{floats}
 use borrow.Author.Needs.{needs}
 use mathlib.Core.Path.{_∙_, refl}
 use Rattle.frames.proofs.refer.is_float_of.Statement.{statement}
 use Rattle.frames.proofs.refer.is_float_of.Tie as tie
-use Rattle.frames.proofs.refer.is_float_of.Reads as reads
-use Rattle.frames.proofs.refer.is_float_of.Lts as lts
-use Rattle.frames.proofs.record.kind_at.Reads as kind-at-reads
-use Rattle.frames.proofs.refer.entry.Reads as entry-reads
-use Rattle.frames.proofs.refer.float_variable.Reads as float-variable-reads
 
 entry-requires : tie.Need-entry-requires
 entry-requires c κs = search needs

@@ -1,14 +1,10 @@
+-- `frames::refer::pair_of` meets its contract: inside the list the reader stands where `here-rows` says, past its end the default is read.
 use Rattle.frames.proofs.Loops.{here-getD, here-rows, rows-past}
 use Rattle.frames.specs.Layout.{pairAt, pairCount, pairsAt, pairsFrom}
 use borrow.Author.Needs.{needs}
 use native.Mathlib.Omega.{arith}
 use Rattle.frames.proofs.refer.pair_of.Statement.{statement}
 use Rattle.frames.proofs.refer.pair_of.Tie as tie
-use Rattle.frames.proofs.refer.pair_of.Reads as reads
-use Rattle.frames.proofs.refer.pair_of.Lts as lts
-use Rattle.frames.proofs.read.u16_at.Reads as u16-at-reads
-use Rattle.frames.proofs.record.pair_count.Reads as pair-count-reads
-use Rattle.frames.proofs.record.pairs_from.Reads as pairs-from-reads
 
 pair-count-requires : tie.Need-pair-count-requires
 pair-count-requires c κs = search needs

@@ -1,11 +1,10 @@
+-- `frames::refer::reaches` meets its contract: each return is the case of the definition that the tests on the way to it pick.
 use Rattle.frames.proofs.Chains.{either-first, either-second, equal-no, equal-yes}
 use Rattle.frames.specs.Logic.{below}
 use Rattle.frames.specs.Table.{within}
 use mathlib.Core.Path.{refl}
 use Rattle.frames.proofs.refer.reaches.Statement.{statement}
 use Rattle.frames.proofs.refer.reaches.Tie as tie
-use Rattle.frames.proofs.refer.reaches.Reads as reads
-use Rattle.frames.proofs.refer.reaches.Lts as lts
 
 returns : tie.Need-returns
 unfolding within

@@ -1,14 +1,10 @@
+-- `frames::refer::symbol` meets its contract: inside the list the reader stands where `here-rows` says, past its end the default is read.
 use Rattle.frames.proofs.Loops.{here-getD, here-rows, rows-past}
 use Rattle.frames.specs.Layout.{symbolCount, symbolsAt, symbolsFrom, u16}
 use borrow.Author.Needs.{needs}
 use native.Mathlib.Omega.{arith}
 use Rattle.frames.proofs.refer.symbol.Statement.{statement}
 use Rattle.frames.proofs.refer.symbol.Tie as tie
-use Rattle.frames.proofs.refer.symbol.Reads as reads
-use Rattle.frames.proofs.refer.symbol.Lts as lts
-use Rattle.frames.proofs.read.u16_at.Reads as u16-at-reads
-use Rattle.frames.proofs.record.symbol_count.Reads as symbol-count-reads
-use Rattle.frames.proofs.record.symbols_from.Reads as symbols-from-reads
 
 symbol-count-requires : tie.Need-symbol-count-requires
 symbol-count-requires c κs = search needs

@@ -1,10 +1,8 @@
+-- `frames::refer::typecode` meets its contract: the typecode is symbol 0.
 use Rattle.frames.specs.Layout.{typecodeAt}
 use borrow.Author.Needs.{needs}
 use Rattle.frames.proofs.refer.typecode.Statement.{statement}
 use Rattle.frames.proofs.refer.typecode.Tie as tie
-use Rattle.frames.proofs.refer.typecode.Reads as reads
-use Rattle.frames.proofs.refer.typecode.Lts as lts
-use Rattle.frames.proofs.refer.symbol.Reads as symbol-reads
 
 symbol-requires : tie.Need-symbol-requires
 symbol-requires c κs = search needs

@@ -1,10 +1,8 @@
+-- `frames::text::between` meets its contract: the equations that its calls ensure are joined to the definition by `cc`.
 use Rattle.frames.specs.Logic.{atMost}
 use borrow.Author.Needs.{needs}
 use Rattle.frames.proofs.text.between.Statement.{statement}
 use Rattle.frames.proofs.text.between.Tie as tie
-use Rattle.frames.proofs.text.between.Reads as reads
-use Rattle.frames.proofs.text.between.Lts as lts
-use Rattle.frames.proofs.logic.both.Reads as both-reads
 
 both-requires : tie.Need-both-requires
 both-requires c κs = search needs

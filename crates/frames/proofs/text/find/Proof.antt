@@ -1,3 +1,4 @@
+-- `frames::text::find` meets its contract: the loop stops at the first record that bears the text. The invariant: none so far does (`AnySoFar`).
 use Prim.Native.Nat.{_-_, _≤_}
 use Rattle.frames.proofs.Found.{same-true}
 use Rattle.frames.proofs.Loops.{AnySoFar, any-done, any-more, any-none, here-list}
@@ -8,10 +9,6 @@ use mathlib.Core.Path.{sym}
 use native.Mathlib.Omega.{arith}
 use Rattle.frames.proofs.text.find.Statement.{statement}
 use Rattle.frames.proofs.text.find.Tie as tie
-use Rattle.frames.proofs.text.find.Reads as reads
-use Rattle.frames.proofs.text.find.Lts as lts
-use Rattle.frames.proofs.record.rest_at.Reads as rest-at-reads
-use Rattle.frames.proofs.text.same_bytes.Reads as same-bytes-reads
 
 abbrev Inv-loop : tie.InvT-loop
 Inv-loop file offsets text i₀ i = (i ≤ length offsets) × AnySoFar (named file text) offsets i

@@ -1,12 +1,9 @@
+-- `frames::text::label_byte` meets its contract: the equations that its calls ensure are joined to the definition by `cc`.
 use Rattle.frames.specs.Logic.{equal, oneOf}
 use Rattle.frames.specs.Table.{labelByte}
 use borrow.Author.Needs.{needs}
 use Rattle.frames.proofs.text.label_byte.Statement.{statement}
 use Rattle.frames.proofs.text.label_byte.Tie as tie
-use Rattle.frames.proofs.text.label_byte.Reads as reads
-use Rattle.frames.proofs.text.label_byte.Lts as lts
-use Rattle.frames.proofs.logic.either.Reads as either-reads
-use Rattle.frames.proofs.text.between.Reads as between-reads
 
 either-requires : tie.Need-either-requires
 either-requires c κs = search needs

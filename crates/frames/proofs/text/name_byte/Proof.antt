@@ -1,13 +1,9 @@
+-- `frames::text::name_byte` meets its contract: the equations that its calls ensure are joined to the definition by `cc`.
 use Rattle.frames.specs.Logic.{equal}
 use Rattle.frames.specs.Table.{nameByte}
 use borrow.Author.Needs.{needs}
 use Rattle.frames.proofs.text.name_byte.Statement.{statement}
 use Rattle.frames.proofs.text.name_byte.Tie as tie
-use Rattle.frames.proofs.text.name_byte.Reads as reads
-use Rattle.frames.proofs.text.name_byte.Lts as lts
-use Rattle.frames.proofs.logic.both.Reads as both-reads
-use Rattle.frames.proofs.logic.no.Reads as no-reads
-use Rattle.frames.proofs.text.between.Reads as between-reads
 
 between-requires : tie.Need-between-requires
 between-requires c κs = search needs

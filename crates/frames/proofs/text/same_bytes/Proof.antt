@@ -1,3 +1,4 @@
+-- `frames::text::same_bytes` meets its contract: the loop stops at the first difference. The invariant: what is left of the two is the same exactly when the whole is (`SameSoFar`).
 use Prim.Native.Nat.{_-_, _≤_}
 use Rattle.frames.proofs.Chains.{equal-no, equal-yes}
 use Rattle.frames.proofs.Loops.{SameSoFar, here-list, same-done, same-lengths, same-more, same-none, same-stop}
@@ -6,8 +7,6 @@ use lib.ListN.{length}
 use native.Mathlib.Omega.{arith}
 use Rattle.frames.proofs.text.same_bytes.Statement.{statement}
 use Rattle.frames.proofs.text.same_bytes.Tie as tie
-use Rattle.frames.proofs.text.same_bytes.Reads as reads
-use Rattle.frames.proofs.text.same_bytes.Lts as lts
 
 abbrev Inv-loop : tie.InvT-loop
 Inv-loop a b i₀ i = (i ≤ length a) × SameSoFar a b i

@@ -1,0 +1,28 @@
+use Rattle.frames.proofs.Chains.{both-first, both-second}
+use Rattle.frames.specs.Table.{badFrame}
+use borrow.Author.Needs.{needs}
+use mathlib.Core.Path.{refl}
+use Rattle.rows.proofs.bad_frame.Statement.{statement}
+use Rattle.rows.proofs.bad_frame.Tie as tie
+
+kind-at-requires : tie.Need-kind-at-requires
+kind-at-requires c κs = search needs
+
+is-assertion-requires : tie.Need-is-assertion-requires
+is-assertion-requires c κs = search needs
+
+bad-assertion-requires : tie.Need-bad-assertion-requires
+bad-assertion-requires c κs = search needs
+
+returns : tie.Need-returns
+unfolding badFrame
+returns c = both-second (cc) (cc)
+
+returns-2 : tie.Need-returns-2
+unfolding badFrame
+returns-2 c = both-first _ (cc) refl
+
+pub bad-frame-spec : {M : Type 1} → statement M
+bad-frame-spec =
+    tie.close
+    (tie.spec kind-at-requires is-assertion-requires bad-assertion-requires returns returns-2)

@@ -1,0 +1,28 @@
+use Rattle.frames.proofs.Chains.{both-first, both-second}
+use Rattle.frames.specs.Table.{badReference}
+use borrow.Author.Needs.{needs}
+use mathlib.Core.Path.{refl}
+use Rattle.rows.proofs.bad_reference.Statement.{statement}
+use Rattle.rows.proofs.bad_reference.Tie as tie
+
+kind-at-requires : tie.Need-kind-at-requires
+kind-at-requires c κs = search needs
+
+is-statement-requires : tie.Need-is-statement-requires
+is-statement-requires c κs = search needs
+
+bad-numbers-requires : tie.Need-bad-numbers-requires
+bad-numbers-requires c κs = search needs
+
+returns : tie.Need-returns
+unfolding badReference
+returns c = both-second (cc) (cc)
+
+returns-2 : tie.Need-returns-2
+unfolding badReference
+returns-2 c = both-first _ (cc) refl
+
+pub bad-reference-spec : {M : Type 1} → statement M
+bad-reference-spec =
+    tie.close
+    (tie.spec kind-at-requires is-statement-requires bad-numbers-requires returns returns-2)

@@ -1,0 +1,54 @@
+use Rattle.frames.specs.Logic.{atMost, below, equal, oneOf}
+use borrow.Author.Needs.{needs}
+use Rattle.rows.proofs.limit_row.Statement.{statement}
+use Rattle.rows.proofs.limit_row.Tie as tie
+
+both-requires : tie.Need-both-requires
+both-requires c κs = search needs
+
+either-requires : tie.Need-either-requires
+either-requires c κs = search needs
+
+either-requires-2 : tie.Need-either-requires-2
+either-requires-2 c κs = search needs
+
+either-requires-3 : tie.Need-either-requires-3
+either-requires-3 c κs = search needs
+
+either-requires-4 : tie.Need-either-requires-4
+either-requires-4 c κs = search needs
+
+both-requires-2 : tie.Need-both-requires-2
+both-requires-2 c κs = search needs
+
+is-statement-requires : tie.Need-is-statement-requires
+is-statement-requires c κs = search needs
+
+both-requires-3 : tie.Need-both-requires-3
+both-requires-3 c κs = search needs
+
+either-requires-5 : tie.Need-either-requires-5
+either-requires-5 c κs = search needs
+
+either-requires-6 : tie.Need-either-requires-6
+either-requires-6 c κs = search needs
+
+returns : tie.Need-returns
+unfolding oneOf equal below atMost
+returns c = cc
+
+pub limit-row-spec : {M : Type 1} → statement M
+limit-row-spec =
+    tie.close
+    (tie.spec
+    both-requires
+    either-requires
+    either-requires-2
+    either-requires-3
+    either-requires-4
+    both-requires-2
+    is-statement-requires
+    both-requires-3
+    either-requires-5
+    either-requires-6
+    returns)

@@ -1,0 +1,38 @@
+use Rattle.frames.specs.Table.{tooMany}
+use borrow.Author.Needs.{needs}
+use Rattle.rows.proofs.too_many.Statement.{statement}
+use Rattle.rows.proofs.too_many.Tie as tie
+
+kind-at-requires : tie.Need-kind-at-requires
+kind-at-requires c κs = search needs
+
+hyp-count-requires : tie.Need-hyp-count-requires
+hyp-count-requires c κs = search needs
+
+pair-count-requires : tie.Need-pair-count-requires
+pair-count-requires c κs = search needs
+
+listed-count-requires : tie.Need-listed-count-requires
+listed-count-requires c κs = search needs
+
+rest-size-requires : tie.Need-rest-size-requires
+rest-size-requires c κs = search needs
+
+limit-row-requires : tie.Need-limit-row-requires
+limit-row-requires c κs = search needs
+
+returns : tie.Need-returns
+unfolding tooMany
+returns c = cc
+
+pub too-many-spec : {M : Type 1} → statement M
+too-many-spec =
+    tie.close
+    (tie.spec
+    kind-at-requires
+    hyp-count-requires
+    pair-count-requires
+    listed-count-requires
+    rest-size-requires
+    limit-row-requires
+    returns)
