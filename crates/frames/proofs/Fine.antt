@@ -4,17 +4,17 @@
 use Prim.Native.Nat.{ℕ, _+_, _≤_, _<_}
 use mathlib.Core.Path.{_≡_, refl}
 use mathlib.Core.Bool.{Bool, true, false}
-use mathlib.Core.List.{List, [], _∷_}
+use mathlib.Core.List.{List}
 use native.Mathlib.Omega.{arith}
 use lib.ListN.{length}
-use Rattle.frames.specs.Logic.{below, atMost, equal, either, both, oneOf}
+use Rattle.frames.specs.Logic.{below, atMost, equal, both}
 use Rattle.frames.specs.Layout.{lengthAt, kindAt, nextAt, isStatement, classAt, hypCount, pairCount, listedCount, restFrom, restSize}
 use Rattle.frames.specs.Table.{unknownKind, badRest, noSymbols, badRecord, tooMany, badSymbol, badLabel, badReference, badFrame, noProof}
 use Rattle.frames.specs.Verdict.{unless, faultAt}
 use Rattle.frames.specs.declared.Refusal.{Refusal}
 use Rattle.frames.specs.declared.Refusal.the-variants.{BadRecord, TooMany, BadSymbol, BadLabel, BadReference, BadFrame, NoProof}
 use Rattle.frames.specs.declared.Fault.{Fault}
-use Rattle.frames.specs.declared.Fault.the-variants.{Fine, Is}
+use Rattle.frames.specs.declared.Fault.the-variants.{Fine}
 use Rattle.frames.proofs.Chains.{below-false, atMost-false, equal-yes}
 use Rattle.frames.proofs.Tells.{oneOf-false, both-false}
 

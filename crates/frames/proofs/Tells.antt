@@ -1,12 +1,12 @@
 -- What a test that held, or failed, tells of its parts: the laws of `Chains` read backwards. A chain of refusals that ends in
 -- `Fine` had each of its tests fail, and a list that passes passes at each member.
-use Prim.Native.Nat.{ℕ, zero, suc, _<_}
-use mathlib.Core.Path.{_≡_, refl, sym}
+use Prim.Native.Nat.{ℕ}
+use mathlib.Core.Path.{_≡_, refl}
 use mathlib.Core.Bool.{Bool, true, false}
 use mathlib.Core.Logic.{_⊎_, inl, inr}
 use mathlib.Core.List.{List, [], _∷_, List·Memᴰ, List·Memᴰ·head, List·Memᴰ·tail, List·Memᴰ·cases-cons, List·Memᴰ·not-nil}
 use native.Mathlib.Omega.{arith}
-use Rattle.frames.specs.Logic.{pick, either, both, no, oneOf, all, any}
+use Rattle.frames.specs.Logic.{either, both, no, oneOf, all, any}
 
 -- a test does not both hold and fail
 pub true-not-false : {t : Bool} → t ≡ true → t ≡ false → ⊥
