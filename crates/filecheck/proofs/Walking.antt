@@ -2,15 +2,15 @@
 -- read, is what it makes of the whole file. The laws say that it holds at the start, after a good record, and what follows
 -- from it at a fault and at the end.
 use Prim.Native.Nat.{ℕ, zero, suc, _+_, _≤_, _<_}
-use mathlib.Core.Path.{_≡_, refl, sym, ap, subst, _∙_}
-use mathlib.Core.Bool.{Bool, true, false}
-use mathlib.Core.List.{List, [], _∷_, _++_}
+use mathlib.Core.Path.{_≡_, refl, sym, ap, _∙_}
+use mathlib.Core.Bool.{true, false}
+use mathlib.Core.List.{List}
 use native.Mathlib.Numerals.{add-one}
 use native.Mathlib.Omega.{arith}
-use lib.ListN.{length, take, drop, set}
-use Rattle.frames.specs.Logic.{equal, pick}
+use lib.ListN.{length, take}
+use Rattle.frames.specs.Logic.{equal}
 use Rattle.frames.specs.Layout.{kindAt, nextAt, isStatement}
-use Rattle.frames.specs.Verdict.{Index, nothing, faultAt, after, Outcome, refusal, endVerdict, atEnd, decided, walk, outcome, verdict, index, laid}
+use Rattle.frames.specs.Verdict.{Index, nothing, faultAt, after, refusal, endVerdict, atEnd, decided, walk, outcome, verdict, index, laid}
 use Rattle.frames.specs.Verdict.{Checked}
 use Rattle.filecheck.specs.Walk.{Advanced}
 use Rattle.frames.specs.declared.Refusal.{Refusal}
@@ -18,7 +18,7 @@ use Rattle.frames.specs.declared.Refusal.the-variants.{TooMany}
 use Rattle.frames.specs.declared.Fault.{Fault}
 use Rattle.frames.specs.declared.Fault.the-variants.{Fine, Is}
 use Rattle.frames.specs.declared.Verdict.{Verdict}
-use Rattle.frames.specs.declared.Verdict.the-variants.{Good, Refused}
+use Rattle.frames.specs.declared.Verdict.the-variants.{Refused}
 use Rattle.filecheck.specs.declared.Walk.{Walk}
 use Rattle.frames.proofs.Chains.{pick-first, pick-second, below-yes, below-no, atMost-yes, atMost-no, equal-true}
 use Rattle.frames.proofs.Fine.{fine-next, fine-moves, fine-symbol-room, fine-statement-room}

@@ -1,7 +1,6 @@
 -- What one step of the walk over a file does to the tables.
 use Prim.Native.Nat.{ℕ, _+_}
 use mathlib.Core.Path.{_≡_}
-use mathlib.Core.Bool.{Bool}
 use mathlib.Core.List.{List}
 use lib.ListN.{set}
 use Rattle.frames.specs.Logic.{equal, pick}

@@ -1,7 +1,7 @@
 -- How a chain of tests is decided, for the functions that return at the first test that settles the answer: each law takes one
 -- test away, so that a proof follows the code's own returns. `chain` is all of them, for `search`.
 use Prim.Native.Nat.{ℕ, _<_, _≤_}
-use mathlib.Core.Path.{_≡_, refl, sym, _∙_}
+use mathlib.Core.Path.{_≡_, refl}
 use mathlib.Core.Bool.{Bool, true, false}
 use mathlib.Core.List.{List, [], _∷_}
 use lib.Dec.{eqb}

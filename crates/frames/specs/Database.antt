@@ -1,11 +1,9 @@
 -- The database that a good frame file is: its symbols and statements in file order, decoded, with the offset of each. A symbol
 -- number or a statement number counts into these lists.
 use Prim.Native.Nat.{ℕ}
-use mathlib.Core.Bool.{true, false}
 use mathlib.Core.Path.{_≡_}
 use mathlib.Core.List.{List, map}
 use lib.ListN.{length}
-use Rattle.frames.specs.Logic.{equal, pick}
 use Rattle.frames.specs.Layout.{kindAt, nextAt, classAt, scopeEndAt, restAt, hypsAt, pairsAt, symbolsAt}
 use Rattle.frames.specs.Verdict.{Index, verdict, index}
 use Rattle.frames.specs.declared.Verdict.the-variants.{Good}

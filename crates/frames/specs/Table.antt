@@ -2,7 +2,7 @@
 -- the record under judgement, `syms` and `stmts` the offsets of the symbols and of the statements before it, in file order: a
 -- symbol number or a statement number counts into them, and the record's own statement number is the length of `stmts`.
 use Prim.Native.Nat.{ℕ, _+_}
-use mathlib.Core.Bool.{Bool, true, false}
+use mathlib.Core.Bool.{Bool}
 use mathlib.Core.List.{List, [], _∷_}
 use lib.ListN.{length, getD}
 use Rattle.frames.specs.Logic.{below, atMost, equal, pick, either, both, no, oneOf, all, any, same, risingFrom}

@@ -2,7 +2,6 @@
 -- left of the file; a good record moves the walk on by at least 6 bytes (`next-further`).
 use Prim.Native.Nat.{_-_}
 use Rattle.filecheck.proofs.Walking.{Walking, next-further, next-inside, statements-length, symbols-length, walking-ends, walking-more, walking-none, walking-stops}
-use Rattle.frames.specs.Table.{given}
 use borrow.Author.Needs.{needs}
 use lib.ListN.{length}
 use mathlib.Core.Path.{_∙_, sym}

@@ -1,6 +1,5 @@
 -- `frames::text::is_used` meets its contract: what the search finds tells whether the text is used (`finds-used`, `finds-unused`).
 use Rattle.frames.proofs.Found.{finds-unused, finds-used}
-use Rattle.frames.specs.Table.{given}
 use borrow.Author.Needs.{needs}
 use Rattle.frames.proofs.text.is_used.Statement.{statement}
 use Rattle.frames.proofs.text.is_used.Tie as tie
