@@ -6,17 +6,17 @@ use mathlib.Core.Logic.{_⊎_, inl, inr}
 use mathlib.Core.List.{List}
 use native.Mathlib.Omega.{arith}
 use lib.ListN.{length, getD}
 use Rattle.frames.specs.Layout.{kindAt, classAt, restAt}
 use Rattle.frames.specs.Table.{nameByte}
 use Rattle.frames.specs.Database.{symbolAt}
 use Rattle.frames.specs.Facts.{SymbolFacts}
 use Rattle.frames.proofs.Chains.{below-false, equal-yes}
 use Rattle.frames.proofs.Tells.{both-false, all-member}
 use Rattle.frames.proofs.Fine.{record-well-formed, limits-kept}
-use Rattle.frames.proofs.Rows.{symbol-fresh}
-use Rattle.frames.proofs.History.{History}
-use Rattle.frames.proofs.Shapes.{had-room}
-use Rattle.frames.proofs.Texts.{rest-sized, name-byte, fresh-differ}
+use Rattle.facts.proofs.Rows.{symbol-fresh}
+use Rattle.facts.proofs.History.{History}
+use Rattle.facts.proofs.Shapes.{had-room}
+use Rattle.facts.proofs.Texts.{rest-sized, name-byte, fresh-differ}
 
 -- a class that is not above 1 is 0 or 1
 class-cases : (k : ℕ) → k ≤ 1 → (k ≡ 0) ⊎ (k ≡ 1)

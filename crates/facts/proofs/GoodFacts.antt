@@ -5,19 +5,19 @@ use mathlib.Core.Path.{_≡_, refl}
 use mathlib.Core.Bool.{false}
 use mathlib.Core.List.{List}
 use lib.ListN.{length}
 use Rattle.frames.specs.Logic.{below}
 use Rattle.frames.specs.Verdict.{Index, nothing, refusal, walk, outcome, verdict, index}
 use Rattle.frames.specs.Database.{symbolAt, statementAt, decode, database, GoodFile}
 use Rattle.frames.specs.Facts.{Facts, FileFacts}
 use Rattle.frames.specs.declared.Refusal.the-variants.{TooMany}
 use Rattle.frames.specs.declared.Verdict.the-variants.{Good}
 use Rattle.frames.proofs.Chains.{below-false}
-use Rattle.frames.proofs.Kept.{pick-cases, refused-not-good}
+use Rattle.facts.proofs.Kept.{pick-cases, refused-not-good}
 use Rattle.frames.proofs.Fine.{record-well-formed}
-use Rattle.frames.proofs.History.{History, good-history}
-use Rattle.frames.proofs.Decoded.{symbols-length, statements-length, symbol-read, statement-read}
-use Rattle.frames.proofs.GoodSymbols.{symbols-few, symbol-record, names-apart}
-use Rattle.frames.proofs.GoodStatements.{statements-few, labels-apart, proof-read, statement-record}
+use Rattle.facts.proofs.History.{History, good-history}
+use Rattle.facts.proofs.Decoded.{symbols-length, statements-length, symbol-read, statement-read}
+use Rattle.facts.proofs.GoodSymbols.{symbols-few, symbol-record, names-apart}
+use Rattle.facts.proofs.GoodStatements.{statements-few, labels-apart, proof-read, statement-record}
 
 module _ (f : List ℕ) (ix : Index) (o : ℕ) (past : History f (ix .symbols) (ix .statements) false o) where
   -- a number of the database is a number of the index

@@ -5,16 +5,16 @@ use mathlib.Core.Bool.{Bool, true, false}
 use mathlib.Core.List.{List, [], _∷_, List·Memᴰ·not-nil}
 use native.Mathlib.Omega.{arith}
 use lib.ListN.{length, take, getD, length-take}
 use Rattle.frames.specs.Logic.{atMost, equal, pick, risingFrom, rows}
 use Rattle.frames.specs.Layout.{u16, u32, kindAt, asserts, hypCount, pairCount, listedCount, listsFrom, pairsFrom, hypsAt, pairAt, pairsAt, symbolCount, symbolsFrom, symbolsAt}
 use Rattle.frames.specs.Table.{noSymbols}
 use Rattle.frames.specs.Facts.{_∈_}
 use Rattle.frames.proofs.Chains.{pick-first, equal-yes, equal-false, atMost-true}
 use Rattle.frames.proofs.Tells.{not-zero, both-true, both-false}
 use Rattle.frames.proofs.Loops.{length-rows}
 use Rattle.frames.proofs.Fine.{WellFormed}
-use Rattle.frames.proofs.Kept.{pick-cases}
-use Rattle.frames.proofs.Decoded.{lists-yes}
+use Rattle.facts.proofs.Kept.{pick-cases}
+use Rattle.facts.proofs.Decoded.{lists-yes}
 
 -- what lists nothing where the test fails, and has a member, passed the test
 listed-passes : {A : Type 0} {x : A} (xs : List A) (t : Bool) → (t ≡ false → xs ≡ []) → x ∈ xs → t ≡ true

@@ -6,15 +6,15 @@ use mathlib.Core.Logic.{_⊎_, inl, inr}
 use mathlib.Core.List.{List}
 use native.Mathlib.Omega.{arith}
 use lib.ListN.{length}
 use Rattle.frames.specs.Logic.{below}
 use Rattle.frames.specs.Verdict.{Index, nothing, refusal, endVerdict, atEnd, outcome, verdict, index, Checked}
 use Rattle.frames.specs.Database.{database, GoodFile}
 use Rattle.frames.specs.declared.Refusal.{Refusal}
 use Rattle.frames.specs.declared.Refusal.the-variants.{TooMany, NoProof}
 use Rattle.frames.specs.declared.Verdict.{Verdict}
 use Rattle.frames.specs.declared.Verdict.the-variants.{Good, Refused}
-use Rattle.frames.proofs.Kept.{pick-cases, walk-is, refused-not-good}
-use Rattle.frames.proofs.Decoded.{symbols-length, statements-length}
+use Rattle.facts.proofs.Kept.{pick-cases, walk-is, refused-not-good}
+use Rattle.facts.proofs.Decoded.{symbols-length, statements-length}
 
 -- no two outcomes satisfy the contract
 pub checked-unique : (f syms stmts a a′ b b′ : List ℕ) (v w : Verdict) → Checked f syms stmts a b v → Checked f syms stmts a′ b′ w

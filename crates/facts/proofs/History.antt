@@ -10,17 +10,17 @@ use native.Mathlib.Omega.{arith}
 use native.Mathlib.Decide.{decLt}
 use lib.ListN.{length, take, getD, length-append, length-take, List·getD-append}
 use lib.Seq.{take-append-le, take-length, getD-append-seam}
 use Rattle.frames.specs.Logic.{equal, pick}
 use Rattle.frames.specs.Layout.{kindAt, nextAt, isStatement, restSize, symbolsAt}
 use Rattle.frames.specs.Table.{defined}
 use Rattle.frames.specs.Verdict.{nothing, after, index}
 use Rattle.frames.specs.Database.{GoodFile}
 use Rattle.frames.specs.Facts.{_∈_}
 use Rattle.frames.proofs.Chains.{below-true, equal-yes, equal-true}
 use Rattle.frames.proofs.Tells.{all-member}
 use Rattle.frames.proofs.Fine.{Faultless, record-well-formed, limits-kept}
-use Rattle.frames.proofs.Rows.{reference-good, proof-good}
-use Rattle.frames.proofs.Kept.{good-keeps}
+use Rattle.facts.proofs.Rows.{reference-good, proof-good}
+use Rattle.facts.proofs.Kept.{good-keeps}
 
 -- the list with `o` at its end where the test holds
 abbrev pub grown : Bool → List ℕ → ℕ → List ℕ

@@ -9,21 +9,21 @@ use mathlib.Core.List.{List}
 use native.Mathlib.Omega.{arith}
 use lib.ListN.{length, take, drop, getD, length-take}
 use lib.Seq.{getD-take, length-take-le}
 use Rattle.frames.specs.Logic.{equal}
 use Rattle.frames.specs.Layout.{kindAt, nextAt, asserts, restFrom, restSize, restAt, hypsAt, symbolsAt, typecodeAt, variableAt}
 use Rattle.frames.specs.Table.{labelByte, variables, active, floats, floatsBelow, given, hypFramed, equalMembers}
 use Rattle.frames.specs.Verdict.{Index}
 use Rattle.frames.specs.Database.{statementAt, decode}
 use Rattle.frames.specs.Facts.{_∈_, statementOf, typecode, floated, Variable, Active, Floats, Given, StatementFacts}
 use Rattle.frames.proofs.Chains.{pick-first, pick-second, below-yes, equal-no, equal-true, equal-false, both-second}
 use Rattle.frames.proofs.Tells.{true-not-false, both-true, no-true, all-member, any-member}
 use Rattle.frames.proofs.Fine.{WellFormed, WithinLimits, record-well-formed, limits-kept}
-use Rattle.frames.proofs.Rows.{Refers, Framed, label-fresh, reference-good, frame-good}
-use Rattle.frames.proofs.History.{StatementJudged, ProofRead, History, judged-known}
-use Rattle.frames.proofs.Texts.{rest-sized, label-byte, fresh-differ}
-use Rattle.frames.proofs.Decoded.{symbols-length, statement-read, kind-range, asserts-yes, asserts-no}
-use Rattle.frames.proofs.Shapes
-use Rattle.frames.proofs.Meaning.{constant-is, variable-is, active-is, is-floats, all-given-is}
+use Rattle.facts.proofs.Rows.{Refers, Framed, label-fresh, reference-good, frame-good}
+use Rattle.facts.proofs.History.{StatementJudged, ProofRead, History, judged-known}
+use Rattle.facts.proofs.Texts.{rest-sized, label-byte, fresh-differ}
+use Rattle.facts.proofs.Decoded.{symbols-length, statement-read, kind-range, asserts-yes, asserts-no}
+use Rattle.facts.proofs.Shapes
+use Rattle.facts.proofs.Meaning.{constant-is, variable-is, active-is, is-floats, all-given-is}
 
 -- the offset of statement p
 abbrev offset : Index → ℕ → ℕ

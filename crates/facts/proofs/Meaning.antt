@@ -8,16 +8,16 @@ use mathlib.Core.List.{List}
 use native.Mathlib.Omega.{arith}
 use lib.ListN.{length, take, getD, length-take}
 use lib.Seq.{getD-take}
 use Rattle.frames.specs.Logic.{below}
 use Rattle.frames.specs.Layout.{classAt, variableAt}
 use Rattle.frames.specs.Table.{classOf, constant, variable, within, active, floats, floatsBelow, given, symbolGiven, allGiven}
 use Rattle.frames.specs.Verdict.{Index}
 use Rattle.frames.specs.Database.{symbolAt, statementAt, decode}
 use Rattle.frames.specs.Facts.{_∈_, statementOf, floated, Constant, Variable, Active, Floats, Given}
 use Rattle.frames.proofs.Chains.{pick-first, below-true, below-yes, equal-true, equal-yes, both-second}
 use Rattle.frames.proofs.Tells.{true-not-false, both-true, either-cases, all-member, any-witness, no-true}
-use Rattle.frames.proofs.Kept.{pick-cases}
-use Rattle.frames.proofs.Decoded.{symbols-length, symbol-read, statement-read, supposes-kind}
+use Rattle.facts.proofs.Kept.{pick-cases}
+use Rattle.facts.proofs.Decoded.{symbols-length, symbol-read, statement-read, supposes-kind}
 
 -- a number whose class is 0 or 1 is defined, and its record has that class
 class-read : (f syms : List ℕ) (n s c : ℕ) → c < 2 → classOf f (take n syms) s ≡ c
