@@ -1,8 +1,11 @@
 -- `filecheck::advance` meets its contract: field by field, from what the calls ensure.
+use Prim.Native.Nat.{_+_}
 use Rattle.frames.proofs.Chains.{equal-eqb}
-use Rattle.frames.specs.Logic.{equal}
+use Rattle.frames.specs.Layout.{isStatement}
+use Rattle.frames.specs.Logic.{equal, pick}
+use Rattle.rows.proofs.Rows.{moved}
 use borrow.Author.Needs.{needs}
-use mathlib.Core.Path.{_∙_, ap}
+use lib.ListN.{set}
 use Rattle.filecheck.proofs.advance.Statement.{statement}
 use Rattle.filecheck.proofs.advance.Tie as tie
 
@@ -28,7 +31,7 @@ same-length-2 : tie.Need-same-length-2
 same-length-2 c = search needs
 
 returns : tie.Need-returns
-returns c = record { at-next = c .before .before .before .before .before .before .before .before .next-at .ensures .0; symbols-counted = cc; statements-counted = cc; owed-now = equal-eqb (c .before .before .before .before .before .before .before .before .before .kind-at .result) 5 ∙ ap (λ k. equal k 5) (c .before .before .before .before .before .before .before .before .before .kind-at .ensures .0); symbols-laid = cc; statements-laid = cc }
+returns c = let a = c .before .before .before .before .before .before .before .before .before .before .before .before .before .args in let kind = c .before .before .before .before .before .before .before .before .before .kind-at .ensures .0 in record { at-next = c .before .before .before .before .before .before .before .before .next-at .ensures .0; symbols-counted = moved (λ k. pick (equal k 1) (a .st .symbols + 1) (a .st .symbols)) (c .before .before .before .before .before .before .take-symbol .ensures .0) kind; statements-counted = moved (λ k. pick (isStatement k) (a .st .statements + 1) (a .st .statements)) (c .before .before .take-statement .ensures .0) kind; owed-now = moved (λ k. equal k 5) (equal-eqb (c .before .before .before .before .before .before .before .before .before .kind-at .result) 5) kind; symbols-laid = moved (λ k. pick (equal k 1) (set (a .symbols .now) (a .st .symbols) (a .st .at)) (a .symbols .now)) (c .before .before .before .before .before .before .take-symbol .ensures .1) kind; statements-laid = moved (λ k. pick (isStatement k) (set (a .statements .now) (a .st .statements) (a .st .at)) (a .statements .now)) (c .before .before .take-statement .ensures .1) kind }
 
 pub advance-spec : {M : Type 1} → statement M
 advance-spec =

@@ -1,7 +1,7 @@
 -- `filecheck::take_statement` meets its contract: each return is the case of the definition that the tests on the way to it pick.
 use Rattle.frames.proofs.Chains.{pick-first, pick-second}
 use borrow.Author.Needs.{needs}
-use mathlib.Core.Path.{refl}
+use mathlib.Core.Path.{_∙_, refl, sym}
 use Rattle.filecheck.proofs.take_statement.Statement.{statement}
 use Rattle.filecheck.proofs.take_statement.Tie as tie
 
@@ -18,10 +18,10 @@ same-length : tie.Need-same-length
 same-length c = search needs
 
 returns : tie.Need-returns
-returns c = (pick-first _ (cc) refl, pick-first _ (cc) (c .before .before .lay .ensures))
+returns c = let e = sym (c .before .before .before .before .before .is-statement .ensures) ∙ c .before .before .before .before .if1 .taken in (pick-first _ e refl, pick-first _ e (c .before .before .lay .ensures))
 
 returns-2 : tie.Need-returns-2
-returns-2 c = (pick-second _ (cc) refl, pick-second _ (cc) refl)
+returns-2 c = let e = sym (c .before .is-statement .ensures) ∙ c .if1 .left in (pick-second _ e refl, pick-second _ e refl)
 
 pub take-statement-spec : {M : Type 1} → statement M
 take-statement-spec =

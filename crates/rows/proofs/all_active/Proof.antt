@@ -1,3 +1,4 @@
+use Rattle.rows.proofs.Rows.{told}
 use Prim.Native.Nat.{_-_, _≤_}
 use Rattle.frames.proofs.Loops.{AllSoFar, all-done, all-more, all-none, all-stop, here-rows, length-rows}
 use Rattle.frames.specs.Layout.{u32}
@@ -37,10 +38,10 @@ loop-less : tie.Need-loop-less Inv-loop μ-loop
 loop-less c = omega arith
 
 loop-again : tie.Need-loop-again Inv-loop μ-loop
-loop-again c = let a = c .before .before .before .before .before .before .before .args in (omega arith, all-more (c .before .before .before .before .loop .inv .1) (here-rows (u32 (a .file .now)) 4 (a .h) (a .from) (c .before .before .before .before .loop .i) (omega arith)) (cc))
+loop-again c = let a = c .before .before .before .before .before .before .before .args in (omega arith, all-more (c .before .before .before .before .loop .inv .1) (here-rows (u32 (a .file .now)) 4 (a .h) (a .from) (c .before .before .before .before .loop .i) (omega arith)) (told (active (a .file .now) (a .statements .now) (length (a .statements .now))) (c .before .is-active .ensures) (c .before .before .u32-at .ensures .0) (c .if1 .taken)))
 
 returns : tie.Need-returns Inv-loop μ-loop
-returns c = let a = c .before .before .before .before .before .before .before .args in all-stop (c .before .before .before .before .loop .inv .1) (here-rows (u32 (a .file .now)) 4 (a .h) (a .from) (c .before .before .before .before .loop .i) (omega arith)) (cc)
+returns c = let a = c .before .before .before .before .before .before .before .args in all-stop (c .before .before .before .before .loop .inv .1) (here-rows (u32 (a .file .now)) 4 (a .h) (a .from) (c .before .before .before .before .loop .i) (omega arith)) (told (active (a .file .now) (a .statements .now) (length (a .statements .now))) (c .before .is-active .ensures) (c .before .before .u32-at .ensures .0) (c .if1 .left))
 
 returns-2 : tie.Need-returns-2 Inv-loop μ-loop
 returns-2 c = let a = c .before .before .before .before .args in all-done (c .before .loop .inv .1) (omega (arith, length-rows (u32 (a .file .now)) 4 (a .h) (a .from)))

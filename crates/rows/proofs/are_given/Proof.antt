@@ -1,10 +1,10 @@
+use Rattle.rows.proofs.Rows.{rows-moved, told}
 use Prim.Native.Nat.{_-_, _≤_}
 use Rattle.frames.proofs.Loops.{AllSoFar, all-done, all-more, all-none, all-stop, here-rows, length-rows}
 use Rattle.frames.specs.Layout.{symbolsAt, u16, u32}
-use Rattle.frames.specs.Logic.{rows}
+use Rattle.frames.specs.Logic.{all, rows}
 use Rattle.frames.specs.Table.{allGiven, symbolGiven}
 use borrow.Author.Needs.{needs}
-use mathlib.Core.Path.{_∙_}
 use native.Mathlib.Omega.{arith}
 use Rattle.rows.proofs.are_given.Statement.{statement}
 use Rattle.rows.proofs.are_given.Tie as tie
@@ -43,15 +43,15 @@ loop-less : tie.Need-loop-less Inv-loop μ-loop
 loop-less c = omega arith
 
 loop-again : tie.Need-loop-again Inv-loop μ-loop
-loop-again c = let a = c .before .before .before .before .before .before .before .before .before .before .args in (omega arith, all-more (c .before .before .before .before .loop .inv .1) (here-rows (u16 (a .file .now)) 2 (c .before .before .before .before .before .symbol-count .result) (c .before .before .before .before .before .before .symbols-from .result) (c .before .before .before .before .loop .i) (omega arith)) (cc))
+loop-again c = let a = c .before .before .before .before .before .before .before .before .before .before .args in (omega arith, all-more (c .before .before .before .before .loop .inv .1) (here-rows (u16 (a .file .now)) 2 (c .before .before .before .before .before .symbol-count .result) (c .before .before .before .before .before .before .symbols-from .result) (c .before .before .before .before .loop .i) (omega arith)) (told (symbolGiven (a .file .now) (a .symbols .now) (a .statements .now) (rows (u32 (a .file .now)) 4 (a .h) (a .from)) (a .limit)) (c .before .is-symbol-given .ensures) (c .before .before .u16-at .ensures .0) (c .if1 .taken)))
 
 returns : tie.Need-returns Inv-loop μ-loop
 unfolding allGiven symbolsAt
-returns c = let a = c .before .before .before .before .before .before .before .before .before .before .args in all-stop (c .before .before .before .before .loop .inv .1) (here-rows (u16 (a .file .now)) 2 (c .before .before .before .before .before .symbol-count .result) (c .before .before .before .before .before .before .symbols-from .result) (c .before .before .before .before .loop .i) (omega arith)) (cc) ∙ (cc)
+returns c = let a = c .before .before .before .before .before .before .before .before .before .before .args in rows-moved (all (symbolGiven (a .file .now) (a .symbols .now) (a .statements .now) (rows (u32 (a .file .now)) 4 (a .h) (a .from)) (a .limit))) (u16 (a .file .now)) 2 (all-stop (c .before .before .before .before .loop .inv .1) (here-rows (u16 (a .file .now)) 2 (c .before .before .before .before .before .symbol-count .result) (c .before .before .before .before .before .before .symbols-from .result) (c .before .before .before .before .loop .i) (omega arith)) (told (symbolGiven (a .file .now) (a .symbols .now) (a .statements .now) (rows (u32 (a .file .now)) 4 (a .h) (a .from)) (a .limit)) (c .before .is-symbol-given .ensures) (c .before .before .u16-at .ensures .0) (c .if1 .left))) (c .before .before .before .before .before .symbol-count .ensures .0) (c .before .before .before .before .before .before .symbols-from .ensures .0)
 
 returns-2 : tie.Need-returns-2 Inv-loop μ-loop
 unfolding allGiven symbolsAt
-returns-2 c = let a = c .before .before .before .before .before .before .before .args in all-done (c .before .loop .inv .1) (omega (arith, length-rows (u16 (a .file .now)) 2 (c .before .before .symbol-count .result) (c .before .before .before .symbols-from .result))) ∙ (cc)
+returns-2 c = let a = c .before .before .before .before .before .before .before .args in rows-moved (all (symbolGiven (a .file .now) (a .symbols .now) (a .statements .now) (rows (u32 (a .file .now)) 4 (a .h) (a .from)) (a .limit))) (u16 (a .file .now)) 2 (all-done (c .before .loop .inv .1) (omega (arith, length-rows (u16 (a .file .now)) 2 (c .before .before .symbol-count .result) (c .before .before .before .symbols-from .result)))) (c .before .before .symbol-count .ensures .0) (c .before .before .before .symbols-from .ensures .0)
 
 pub are-given-spec : {M : Type 1} → statement M
 are-given-spec =

@@ -1,6 +1,7 @@
+use Rattle.rows.proofs.Rows.{moved, told}
 use Rattle.frames.proofs.Chains.{both-first, both-second}
 use Rattle.frames.specs.Layout.{pairAt}
-use Rattle.frames.specs.Table.{variables}
+use Rattle.frames.specs.Table.{variable, variables}
 use borrow.Author.Needs.{needs}
 use mathlib.Core.Path.{refl}
 use Rattle.rows.proofs.are_variables.Statement.{statement}
@@ -23,11 +24,11 @@ is-variable-requires-2 c κs = search needs
 
 returns : tie.Need-returns
 unfolding variables pairAt
-returns c = both-second (cc) (cc)
+returns c = let a = c .before .before .before .before .before .before .before .args in both-second (told (variable (a .file .now) (a .symbols .now)) (c .before .before .before .is-variable .ensures) (c .before .before .before .before .u16-at .ensures .0) (c .before .before .if1 .taken)) (moved (variable (a .file .now) (a .symbols .now)) (c .is-variable2 .ensures) (c .before .u16-at2 .ensures .0))
 
 returns-2 : tie.Need-returns-2
 unfolding variables pairAt
-returns-2 c = both-first _ (cc) refl
+returns-2 c = let a = c .before .before .before .before .before .args in both-first _ (told (variable (a .file .now) (a .symbols .now)) (c .before .is-variable .ensures) (c .before .before .u16-at .ensures .0) (c .if1 .left)) refl
 
 pub are-variables-spec : {M : Type 1} → statement M
 are-variables-spec =

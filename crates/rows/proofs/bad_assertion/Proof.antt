@@ -1,5 +1,8 @@
-use Rattle.frames.specs.Layout.{hypsAt, pairsAt}
-use Rattle.frames.specs.Table.{badAssertion}
+use lib.ListN.{length}
+use Rattle.frames.specs.Logic.{all, any}
+use Rattle.rows.proofs.Rows.{frame-moved, rows-moved}
+use Rattle.frames.specs.Layout.{hypsAt, pairAt, pairsAt, symbolsAt, u32}
+use Rattle.frames.specs.Table.{allGiven, badAssertion, equalMembers, hypFramed}
 use borrow.Author.Needs.{needs}
 use Rattle.rows.proofs.bad_assertion.Statement.{statement}
 use Rattle.rows.proofs.bad_assertion.Tie as tie
@@ -30,7 +33,7 @@ frame-row-requires c κs = search needs
 
 returns : tie.Need-returns
 unfolding badAssertion hypsAt pairsAt
-returns c = cc
+returns c = let a = c .before .before .before .before .before .before .before .before .before .before .before .args in let f = a .file .now in let syms = a .symbols .now in let stmts = a .statements .now in let h = c .before .before .before .before .before .before .hyp-count .ensures .0 in let l = c .before .before .before .before .before .before .before .lists-from .ensures .0 in frame-moved (c .frame-row .ensures) (rows-moved (λ hs. allGiven f syms stmts hs (length stmts) (symbolsAt f (a .at))) (u32 f) 4 (c .before .before .before .are-given .ensures) h l) (rows-moved (λ hs. all (hypFramed f syms stmts hs) hs) (u32 f) 4 (c .before .before .all-framed .ensures) h l) (rows-moved (any equalMembers) (pairAt f) 4 (c .before .has-equal-pair .ensures) (c .before .before .before .before .pair-count .ensures .0) (c .before .before .before .before .before .pairs-from .ensures .0))
 
 pub bad-assertion-spec : {M : Type 1} → statement M
 bad-assertion-spec =

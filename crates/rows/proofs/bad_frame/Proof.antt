@@ -1,3 +1,5 @@
+use Rattle.frames.specs.Layout.{asserts}
+use Rattle.rows.proofs.Rows.{told}
 use Rattle.frames.proofs.Chains.{both-first, both-second}
 use Rattle.frames.specs.Table.{badFrame}
 use borrow.Author.Needs.{needs}
@@ -16,11 +18,11 @@ bad-assertion-requires c κs = search needs
 
 returns : tie.Need-returns
 unfolding badFrame
-returns c = both-second (cc) (cc)
+returns c = both-second (told asserts (c .before .before .is-assertion .ensures) (c .before .before .before .kind-at .ensures .0) (c .before .if1 .taken)) (c .bad-assertion .ensures)
 
 returns-2 : tie.Need-returns-2
 unfolding badFrame
-returns-2 c = both-first _ (cc) refl
+returns-2 c = both-first _ (told asserts (c .before .is-assertion .ensures) (c .before .before .kind-at .ensures .0) (c .if1 .left)) refl
 
 pub bad-frame-spec : {M : Type 1} → statement M
 bad-frame-spec =

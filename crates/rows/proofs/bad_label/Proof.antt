@@ -1,5 +1,8 @@
+use Rattle.frames.specs.Layout.{isStatement}
+use Rattle.frames.specs.Logic.{all}
+use Rattle.rows.proofs.Rows.{moved, told}
 use Rattle.frames.proofs.Chains.{both-first, both-second, either-first, either-second, no-of-false, no-of-true}
-use Rattle.frames.specs.Table.{badLabel}
+use Rattle.frames.specs.Table.{badLabel, labelByte, used}
 use borrow.Author.Needs.{needs}
 use mathlib.Core.Path.{refl}
 use Rattle.rows.proofs.bad_label.Statement.{statement}
@@ -22,15 +25,15 @@ is-used-requires c κs = search needs
 
 returns : tie.Need-returns
 unfolding badLabel
-returns c = both-second (cc) (either-second (no-of-true (cc)) (cc))
+returns c = let a = c .before .before .before .before .before .before .before .before .before .args in let rest = c .before .before .before .rest-at .ensures in both-second (told isStatement (c .before .before .before .before .before .is-statement .ensures) (c .before .before .before .before .before .before .kind-at .ensures .0) (c .before .before .before .before .if1 .taken)) (either-second (no-of-true (told (all labelByte) (c .before .before .all-label-bytes .ensures) rest (c .before .if2 .taken))) (moved (used (a .file .now) (a .statements .now)) (c .is-used .ensures) rest))
 
 returns-2 : tie.Need-returns-2
 unfolding badLabel
-returns-2 c = both-second (cc) (either-first _ (no-of-false (cc)) refl)
+returns-2 c = both-second (told isStatement (c .before .before .before .before .is-statement .ensures) (c .before .before .before .before .before .kind-at .ensures .0) (c .before .before .before .if1 .taken)) (either-first _ (no-of-false (told (all labelByte) (c .before .all-label-bytes .ensures) (c .before .before .rest-at .ensures) (c .if2 .left))) refl)
 
 returns-3 : tie.Need-returns-3
 unfolding badLabel
-returns-3 c = both-first _ (cc) refl
+returns-3 c = both-first _ (told isStatement (c .before .is-statement .ensures) (c .before .before .kind-at .ensures .0) (c .if1 .left)) refl
 
 pub bad-label-spec : {M : Type 1} → statement M
 bad-label-spec =

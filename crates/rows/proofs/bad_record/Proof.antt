@@ -1,3 +1,6 @@
+use Prim.Native.Nat.{_+_}
+use lib.ListN.{length}
+use Rattle.rows.proofs.Rows.{record-moved}
 use Rattle.frames.specs.Table.{badRecord}
 use borrow.Author.Needs.{needs}
 use Rattle.rows.proofs.bad_record.Statement.{statement}
@@ -32,7 +35,7 @@ record-row-requires c κs = search needs
 
 returns : tie.Need-returns
 unfolding badRecord
-returns c = cc
+returns c = let a = c .before .before .before .before .before .before .before .before .before .args in record-moved (length (a .file .now)) (a .at + 4) (c .record-row .ensures) (c .before .before .before .before .before .before .before .next-at .ensures .0) (c .before .before .before .before .before .before .length-at .ensures .0) (c .before .before .before .before .before .kind-at .ensures .0) (c .before .before .before .before .class-at .ensures .0) (c .before .before .before .rest-from .ensures .0) (c .before .before .rest-size .ensures .0) (c .before .listed-count .ensures .0)
 
 pub bad-record-spec : {M : Type 1} → statement M
 bad-record-spec =

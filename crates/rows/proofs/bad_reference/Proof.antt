@@ -1,3 +1,5 @@
+use Rattle.frames.specs.Layout.{isStatement}
+use Rattle.rows.proofs.Rows.{told}
 use Rattle.frames.proofs.Chains.{both-first, both-second}
 use Rattle.frames.specs.Table.{badReference}
 use borrow.Author.Needs.{needs}
@@ -16,11 +18,11 @@ bad-numbers-requires c κs = search needs
 
 returns : tie.Need-returns
 unfolding badReference
-returns c = both-second (cc) (cc)
+returns c = both-second (told isStatement (c .before .before .is-statement .ensures) (c .before .before .before .kind-at .ensures .0) (c .before .if1 .taken)) (c .bad-numbers .ensures)
 
 returns-2 : tie.Need-returns-2
 unfolding badReference
-returns-2 c = both-first _ (cc) refl
+returns-2 c = both-first _ (told isStatement (c .before .is-statement .ensures) (c .before .before .kind-at .ensures .0) (c .if1 .left)) refl
 
 pub bad-reference-spec : {M : Type 1} → statement M
 bad-reference-spec =

@@ -1,4 +1,8 @@
-use Rattle.frames.specs.Layout.{hypsAt}
+use lib.ListN.{length}
+use Rattle.frames.specs.Table.{active}
+use Rattle.frames.specs.Logic.{all}
+use Rattle.rows.proofs.Rows.{rows-moved}
+use Rattle.frames.specs.Layout.{hypsAt, u32}
 use borrow.Author.Needs.{needs}
 use native.Mathlib.Omega.{arith}
 use Rattle.rows.proofs.hyps_active.Statement.{statement}
@@ -15,7 +19,7 @@ all-active-requires c κs = omega arith
 
 returns : tie.Need-returns
 unfolding hypsAt
-returns c = cc
+returns c = let a = c .before .before .before .before .before .args in rows-moved (all (active (a .file .now) (a .statements .now) (length (a .statements .now)))) (u32 (a .file .now)) 4 (c .all-active .ensures) (c .before .hyp-count .ensures .0) (c .before .before .lists-from .ensures .0)
 
 pub hyps-active-spec : {M : Type 1} → statement M
 hyps-active-spec =

@@ -1,4 +1,6 @@
-use Rattle.frames.specs.Layout.{hypsAt}
+use Rattle.frames.specs.Logic.{risingFrom}
+use Rattle.rows.proofs.Rows.{rows-moved}
+use Rattle.frames.specs.Layout.{hypsAt, u32}
 use borrow.Author.Needs.{needs}
 use native.Mathlib.Omega.{arith}
 use Rattle.rows.proofs.hyps_rise.Statement.{statement}
@@ -15,7 +17,7 @@ rises-requires c κs = omega arith
 
 returns : tie.Need-returns
 unfolding hypsAt
-returns c = cc
+returns c = rows-moved (risingFrom 0) (u32 (c .before .before .before .before .args .file .now)) 4 (c .rises .ensures) (c .before .hyp-count .ensures .0) (c .before .before .lists-from .ensures .0)
 
 pub hyps-rise-spec : {M : Type 1} → statement M
 hyps-rise-spec = tie.close (tie.spec lists-from-requires hyp-count-requires rises-requires returns)

@@ -1,7 +1,8 @@
+use Rattle.rows.proofs.Rows.{floats-told}
 use Prim.Native.Nat.{_-_, _≤_}
 use Rattle.frames.proofs.Loops.{AnySoFar, any-done, any-more, any-none, any-stop, here-rows, length-rows}
 use Rattle.frames.specs.Layout.{u32}
-use Rattle.frames.specs.Logic.{below, rows}
+use Rattle.frames.specs.Logic.{rows}
 use Rattle.frames.specs.Table.{floatsBelow, given}
 use borrow.Author.Needs.{needs}
 use native.Mathlib.Omega.{arith}
@@ -33,8 +34,8 @@ both-requires : tie.Need-both-requires Inv-loop μ-loop
 both-requires c κs = search needs
 
 returns : tie.Need-returns Inv-loop μ-loop
-unfolding given floatsBelow below
-returns c = let a = c .before .before .before .before .before .before .before .before .args in any-stop (c .before .before .before .before .before .loop .inv .1) (here-rows (u32 (a .file .now)) 4 (a .h) (a .from) (c .before .before .before .before .before .loop .i) (omega arith)) (cc)
+unfolding given
+returns c = let a = c .before .before .before .before .before .before .before .before .args in any-stop (c .before .before .before .before .before .loop .inv .1) (here-rows (u32 (a .file .now)) 4 (a .h) (a .from) (c .before .before .before .before .before .loop .i) (omega arith)) (floats-told (a .file .now) (a .statements .now) (a .limit) (a .v .0) (c .before .both .ensures) (c .before .before .is-float-of .ensures) (c .before .before .before .u32-at .ensures .0) (c .if1 .taken))
 
 add-i : tie.Need-add-i Inv-loop μ-loop
 add-i c = omega arith
@@ -43,8 +44,7 @@ loop-less : tie.Need-loop-less Inv-loop μ-loop
 loop-less c = omega arith
 
 loop-again : tie.Need-loop-again Inv-loop μ-loop
-unfolding floatsBelow below
-loop-again c = let a = c .before .before .before .before .before .before .before .before .args in (omega arith, any-more (c .before .before .before .before .before .loop .inv .1) (here-rows (u32 (a .file .now)) 4 (a .h) (a .from) (c .before .before .before .before .before .loop .i) (omega arith)) (cc))
+loop-again c = let a = c .before .before .before .before .before .before .before .before .args in (omega arith, any-more (c .before .before .before .before .before .loop .inv .1) (here-rows (u32 (a .file .now)) 4 (a .h) (a .from) (c .before .before .before .before .before .loop .i) (omega arith)) (floats-told (a .file .now) (a .statements .now) (a .limit) (a .v .0) (c .before .both .ensures) (c .before .before .is-float-of .ensures) (c .before .before .before .u32-at .ensures .0) (c .if1 .left)))
 
 returns-2 : tie.Need-returns-2 Inv-loop μ-loop
 unfolding given

@@ -1,4 +1,6 @@
-use Rattle.frames.specs.Logic.{atMost, below, equal, oneOf}
+use Rattle.rows.proofs.Rows.{either-of, moved}
+use mathlib.Core.Path.{refl}
+use Rattle.frames.specs.Logic.{atMost, below, both, equal, oneOf}
 use borrow.Author.Needs.{needs}
 use Rattle.rows.proofs.limit_row.Statement.{statement}
 use Rattle.rows.proofs.limit_row.Tie as tie
@@ -35,7 +37,7 @@ either-requires-6 c κs = search needs
 
 returns : tie.Need-returns
 unfolding oneOf equal below atMost
-returns c = cc
+returns c = either-of (c .either6 .ensures) (c .before .before .before .before .both2 .ensures) (either-of (c .before .either5 .ensures) (moved (λ t. both t (atMost 4096 (c .before .before .before .before .before .before .before .before .before .before .args .statements))) (c .before .before .both3 .ensures) (c .before .before .before .is-statement .ensures)) (either-of (c .before .before .before .before .before .either4 .ensures) refl (either-of (c .before .before .before .before .before .before .either3 .ensures) refl (either-of (c .before .before .before .before .before .before .before .either2 .ensures) refl (either-of (c .before .before .before .before .before .before .before .before .either .ensures) (c .before .before .before .before .before .before .before .before .before .both .ensures) refl)))))
 
 pub limit-row-spec : {M : Type 1} → statement M
 limit-row-spec =

@@ -1,4 +1,7 @@
-use Rattle.frames.specs.Layout.{pairsAt}
+use Rattle.frames.specs.Table.{variables}
+use Rattle.frames.specs.Logic.{all}
+use Rattle.rows.proofs.Rows.{rows-moved}
+use Rattle.frames.specs.Layout.{pairAt, pairsAt}
 use borrow.Author.Needs.{needs}
 use native.Mathlib.Omega.{arith}
 use Rattle.rows.proofs.pairs_variables.Statement.{statement}
@@ -15,7 +18,7 @@ all-variables-requires c κs = omega arith
 
 returns : tie.Need-returns
 unfolding pairsAt
-returns c = cc
+returns c = let a = c .before .before .before .before .before .args in rows-moved (all (variables (a .file .now) (a .symbols .now))) (pairAt (a .file .now)) 4 (c .all-variables .ensures) (c .before .pair-count .ensures .0) (c .before .before .pairs-from .ensures .0)
 
 pub pairs-variables-spec : {M : Type 1} → statement M
 pairs-variables-spec =

@@ -1,3 +1,5 @@
+use Rattle.rows.proofs.Rows.{either-of}
+use mathlib.Core.Path.{refl}
 use Rattle.frames.specs.Logic.{below, equal, oneOf}
 use borrow.Author.Needs.{needs}
 use Rattle.rows.proofs.record_row.Statement.{statement}
@@ -41,7 +43,7 @@ either-requires-8 c κs = search needs
 
 returns : tie.Need-returns
 unfolding oneOf equal below
-returns c = cc
+returns c = either-of (c .either8 .ensures) refl (either-of (c .before .either7 .ensures) refl (either-of (c .before .before .either6 .ensures) refl (either-of (c .before .before .before .either5 .ensures) (c .before .before .before .before .unknown-kind .ensures) (either-of (c .before .before .before .before .before .either4 .ensures) (c .before .before .before .before .before .before .before .both .ensures) (either-of (c .before .before .before .before .before .before .either3 .ensures) refl (either-of (c .before .before .before .before .before .before .before .before .either2 .ensures) (c .before .before .before .before .before .before .before .before .before .before .before .bad-rest .ensures) (either-of (c .before .before .before .before .before .before .before .before .before .either .ensures) (c .before .before .before .before .before .before .before .before .before .before .no-symbols .ensures) refl)))))))
 
 pub record-row-spec : {M : Type 1} → statement M
 record-row-spec =

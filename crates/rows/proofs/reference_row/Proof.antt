@@ -1,4 +1,6 @@
-use Rattle.frames.specs.Logic.{oneOf}
+use Rattle.rows.proofs.Rows.{either-of, moved}
+use mathlib.Core.Path.{refl}
+use Rattle.frames.specs.Logic.{both, oneOf}
 use borrow.Author.Needs.{needs}
 use Rattle.rows.proofs.reference_row.Statement.{statement}
 use Rattle.rows.proofs.reference_row.Tie as tie
@@ -44,7 +46,7 @@ either-requires-6 c κs = search needs
 
 returns : tie.Need-returns
 unfolding oneOf
-returns c = cc
+returns c = either-of (c .either6 .ensures) (c .before .before .before .no5 .ensures) (either-of (c .before .either5 .ensures) (c .before .before .no6 .ensures) (either-of (c .before .before .before .before .either4 .ensures) (moved (both (c .before .before .before .before .before .before .before .before .before .before .before .before .before .args .float)) (c .before .before .before .before .before .before .before .both .ensures) (c .before .before .before .before .before .before .before .before .no3 .ensures)) (either-of (c .before .before .before .before .before .either3 .ensures) (c .before .before .before .before .before .before .no4 .ensures) (either-of (c .before .before .before .before .before .before .before .before .before .either2 .ensures) (c .before .before .before .before .before .before .before .before .before .before .before .before .no .ensures) (either-of (c .before .before .before .before .before .before .before .before .before .before .either .ensures) (c .before .before .before .before .before .before .before .before .before .before .before .no2 .ensures) refl)))))
 
 pub reference-row-spec : {M : Type 1} → statement M
 reference-row-spec =

@@ -1,4 +1,7 @@
-use Rattle.frames.specs.Layout.{symbolsAt}
+use Rattle.frames.specs.Table.{defined}
+use Rattle.frames.specs.Logic.{all}
+use Rattle.rows.proofs.Rows.{rows-moved}
+use Rattle.frames.specs.Layout.{symbolsAt, u16}
 use borrow.Author.Needs.{needs}
 use native.Mathlib.Omega.{arith}
 use Rattle.rows.proofs.symbols_defined.Statement.{statement}
@@ -15,7 +18,7 @@ all-defined-requires c κs = omega arith
 
 returns : tie.Need-returns
 unfolding symbolsAt
-returns c = cc
+returns c = let a = c .before .before .before .before .before .args in rows-moved (all (defined (a .symbols .now))) (u16 (a .file .now)) 2 (c .all-defined .ensures) (c .before .symbol-count .ensures .0) (c .before .before .symbols-from .ensures .0)
 
 pub symbols-defined-spec : {M : Type 1} → statement M
 symbols-defined-spec =

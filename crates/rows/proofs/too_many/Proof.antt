@@ -1,3 +1,5 @@
+use lib.ListN.{length}
+use Rattle.rows.proofs.Rows.{limit-moved}
 use Rattle.frames.specs.Table.{tooMany}
 use borrow.Author.Needs.{needs}
 use Rattle.rows.proofs.too_many.Statement.{statement}
@@ -23,7 +25,7 @@ limit-row-requires c κs = search needs
 
 returns : tie.Need-returns
 unfolding tooMany
-returns c = cc
+returns c = let a = c .before .before .before .before .before .before .before .before .before .args in limit-moved (length (a .symbols .now)) (length (a .statements .now)) (c .limit-row .ensures) (c .before .before .before .before .before .kind-at .ensures .0) (c .before .before .before .before .hyp-count .ensures .0) (c .before .before .before .pair-count .ensures .0) (c .before .before .listed-count .ensures .0) (c .before .rest-size .ensures .0)
 
 pub too-many-spec : {M : Type 1} → statement M
 too-many-spec =

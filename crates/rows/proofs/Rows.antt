@@ -1,0 +1,50 @@
+-- Answers carried along equations: what a callee tells of the value that it was handed, told of the value that the definition
+-- names. A proof that hands these laws the facts is checked much quicker than one by `cc` over all that is known at its place.
+use Prim.Native.Nat.{ℕ}
+use mathlib.Core.Path.{_≡_, sym, ap, _∙_}
+use mathlib.Core.Bool.{Bool}
+use mathlib.Core.List.{List, [], _∷_}
+use lib.Dec.{ltb}
+use Rattle.frames.specs.Logic.{below, atMost, equal, both, either, no, oneOf, rows}
+use Rattle.frames.specs.Layout.{isStatement}
+use Rattle.frames.specs.Table.{unknownKind, badRest, noSymbols, floats, floatsBelow}
+
+-- `r` answers for x, so it answers for y
+pub moved : {A B : Type 0} (p : A → B) {x y : A} {r : B} → r ≡ p x → x ≡ y → r ≡ p y
+moved p e g = e ∙ ap p g
+
+-- and where `r` is known
+pub told : {A B : Type 0} (p : A → B) {x y : A} {r b : B} → r ≡ p x → x ≡ y → r ≡ b → p y ≡ b
+told p e g h = sym (moved p e g) ∙ h
+
+-- a list read by its count and its start
+pub rows-moved : {A B : Type 0} (q : List A → B) (read : ℕ → A) (step : ℕ) {n n′ from from′ : ℕ} {r : B}
+    → r ≡ q (rows read step n from) → n ≡ n′ → from ≡ from′ → r ≡ q (rows read step n′ from′)
+rows-moved q read step {n} {n′} {from} {from′} e g h = moved (λ k. q (rows read step n′ k)) (moved (λ k. q (rows read step k from)) e g) h
+
+-- whether a listed hypothesis is a $f below the limit
+pub floats-told : (f stmts : List ℕ) (limit v : ℕ) {s x : ℕ} {t r b : Bool} → r ≡ both (ltb s limit) t → t ≡ floats f stmts v s
+    → s ≡ x → r ≡ b → floatsBelow f stmts limit v x ≡ b
+unfolding floatsBelow below
+floats-told f stmts limit v e g h k = cc
+
+-- one of two tests, each told by an answer
+pub either-of : {t t′ u u′ r : Bool} → r ≡ either t u → t ≡ t′ → u ≡ u′ → r ≡ either t′ u′
+either-of e g h = cc
+
+-- the rows on numbers and answers that are equal
+pub record-moved : (len head : ℕ) {next next′ length length′ kind kind′ class class′ from from′ size size′ n n′ : ℕ} {r : Bool}
+    → r ≡ oneOf (below len head ∷ below len next ∷ below length 2 ∷ unknownKind kind ∷ both (equal kind 1) (below 1 class) ∷ below next from ∷ badRest kind size ∷ noSymbols kind n ∷ [])
+    → next ≡ next′ → length ≡ length′ → kind ≡ kind′ → class ≡ class′ → from ≡ from′ → size ≡ size′ → n ≡ n′
+    → r ≡ oneOf (below len head ∷ below len next′ ∷ below length′ 2 ∷ unknownKind kind′ ∷ both (equal kind′ 1) (below 1 class′) ∷ below next′ from′ ∷ badRest kind′ size′ ∷ noSymbols kind′ n′ ∷ [])
+record-moved len head e next length kind class from size n = cc
+
+pub limit-moved : (symbols statements : ℕ) {kind kind′ h h′ d d′ n n′ size size′ : ℕ} {r : Bool}
+    → r ≡ oneOf (both (equal kind 1) (atMost 4096 symbols) ∷ both (isStatement kind) (atMost 4096 statements) ∷ below 64 h ∷ below 512 d ∷ below 1024 n ∷ both (equal kind 6) (below 65536 size) ∷ [])
+    → kind ≡ kind′ → h ≡ h′ → d ≡ d′ → n ≡ n′ → size ≡ size′
+    → r ≡ oneOf (both (equal kind′ 1) (atMost 4096 symbols) ∷ both (isStatement kind′) (atMost 4096 statements) ∷ below 64 h′ ∷ below 512 d′ ∷ below 1024 n′ ∷ both (equal kind′ 6) (below 65536 size′) ∷ [])
+limit-moved symbols statements e kind h d n size = cc
+
+pub frame-moved : {g g′ a a′ e e′ r : Bool} → r ≡ oneOf (no g ∷ no a ∷ e ∷ []) → g ≡ g′ → a ≡ a′ → e ≡ e′
+    → r ≡ oneOf (no g′ ∷ no a′ ∷ e′ ∷ [])
+frame-moved h g a e = cc
