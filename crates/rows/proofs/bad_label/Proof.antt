@@ -1,3 +1,4 @@
+-- `rows::bad_label` meets its contract: each return is the case of the definition that the tests on the way to it pick.
 use Rattle.frames.specs.Layout.{isStatement}
 use Rattle.frames.specs.Logic.{all}
 use Rattle.rows.proofs.Rows.{moved, told}

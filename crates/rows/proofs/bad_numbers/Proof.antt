@@ -1,3 +1,4 @@
+-- `rows::bad_numbers` meets its contract: the number is the definition's by what the readers below it ensure, and the bounds follow from theirs.
 use Rattle.frames.proofs.Chains.{equal-eqb, reference-same}
 use Rattle.frames.specs.Logic.{equal}
 use Rattle.frames.specs.Table.{badNumbers, constant, variable}

@@ -1,3 +1,4 @@
+-- `rows::bad_record` meets its contract: the number is the definition's by what the readers below it ensure, and the bounds follow from theirs.
 use Prim.Native.Nat.{_+_}
 use lib.ListN.{length}
 use Rattle.rows.proofs.Rows.{record-moved}

@@ -1,3 +1,4 @@
+-- `rows::frame_row` meets its contract: each return is the case of the definition that the tests on the way to it pick.
 use Rattle.frames.specs.Logic.{oneOf}
 use borrow.Author.Needs.{needs}
 use Rattle.rows.proofs.frame_row.Statement.{statement}

@@ -1,3 +1,4 @@
+-- `rows::hyps_rise` meets its contract: the number is the definition's by what the readers below it ensure, and the bounds follow from theirs.
 use Rattle.frames.specs.Logic.{risingFrom}
 use Rattle.rows.proofs.Rows.{rows-moved}
 use Rattle.frames.specs.Layout.{hypsAt, u32}

@@ -1,3 +1,4 @@
+-- `rows::is_framed` meets its contract: each return is the case of the definition that the tests on the way to it pick.
 use Rattle.frames.specs.Layout.{kindAt, symbolsAt, u32, variableAt}
 use Rattle.frames.specs.Logic.{no, rows}
 use Rattle.rows.proofs.Rows.{moved, told}

@@ -1,3 +1,4 @@
+-- `rows::is_given` meets its contract: the loop stops at the first member that passes. The invariant: the test of what is left of the list is the test of the whole (`AnySoFar`).
 use Rattle.rows.proofs.Rows.{floats-told}
 use Prim.Native.Nat.{_-_, _≤_}
 use Rattle.frames.proofs.Loops.{AnySoFar, any-done, any-more, any-none, any-stop, here-rows, length-rows}

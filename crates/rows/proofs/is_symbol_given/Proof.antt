@@ -1,3 +1,4 @@
+-- `rows::is_symbol_given` meets its contract: each return is the case of the definition that the tests on the way to it pick.
 use Rattle.frames.proofs.Chains.{either-first, either-second, no-of-false, no-of-true}
 use Rattle.frames.specs.Table.{symbolGiven}
 use borrow.Author.Needs.{needs}

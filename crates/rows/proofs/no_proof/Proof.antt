@@ -1,3 +1,4 @@
+-- `rows::no_proof` meets its contract: each return is the case of the definition that the tests on the way to it pick.
 use Rattle.frames.proofs.Chains.{pick-first, pick-second}
 use Rattle.frames.specs.Logic.{equal}
 use Rattle.frames.specs.Table.{noProof}

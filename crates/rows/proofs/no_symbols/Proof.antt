@@ -1,3 +1,4 @@
+-- `rows::no_symbols` meets its contract: each return is the case of the definition that the tests on the way to it pick.
 use Rattle.frames.specs.Logic.{equal}
 use Rattle.frames.specs.Table.{noSymbols}
 use borrow.Author.Needs.{needs}

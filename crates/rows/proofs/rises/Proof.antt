@@ -1,3 +1,4 @@
+-- `rows::rises` meets its contract: the loop stops at the first number that does not rise. The invariant: what is left rises from `low` exactly when the whole rises (`RisingSoFar`).
 use Prim.Native.Nat.{_-_, _≤_}
 use Rattle.frames.proofs.Chains.{atMost-no, atMost-yes}
 use Rattle.frames.proofs.Loops.{RisingSoFar, here-rows, length-rows, rising-done, rising-more, rising-none, rising-stop}

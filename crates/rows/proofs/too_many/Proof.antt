@@ -1,3 +1,4 @@
+-- `rows::too_many` meets its contract: the number is the definition's by what the readers below it ensure, and the bounds follow from theirs.
 use lib.ListN.{length}
 use Rattle.rows.proofs.Rows.{limit-moved}
 use Rattle.frames.specs.Table.{tooMany}
