@@ -1,4 +1,5 @@
-use Rattle.rows.proofs.Rows.{rows-moved, told}
+use Rattle.frames.proofs.Chains.{told}
+use Rattle.rows.proofs.Rows.{rows-moved}
 use Prim.Native.Nat.{_-_, _≤_}
 use Rattle.frames.proofs.Loops.{AllSoFar, all-done, all-more, all-none, all-stop, here-rows, length-rows}
 use Rattle.frames.specs.Layout.{symbolsAt, u16, u32}

@@ -1,5 +1,4 @@
-use Rattle.rows.proofs.Rows.{moved, told}
-use Rattle.frames.proofs.Chains.{both-first, both-second}
+use Rattle.frames.proofs.Chains.{both-first, both-second, moved, told}
 use Rattle.frames.specs.Layout.{pairAt}
 use Rattle.frames.specs.Table.{variable, variables}
 use borrow.Author.Needs.{needs}

@@ -1,7 +1,6 @@
 use Rattle.frames.specs.Layout.{isStatement}
 use Rattle.frames.specs.Logic.{all}
-use Rattle.rows.proofs.Rows.{moved, told}
-use Rattle.frames.proofs.Chains.{both-first, both-second, either-first, either-second, no-of-false, no-of-true}
+use Rattle.frames.proofs.Chains.{both-first, both-second, either-first, either-second, moved, no-of-false, no-of-true, told}
 use Rattle.frames.specs.Table.{badLabel, labelByte, used}
 use borrow.Author.Needs.{needs}
 use mathlib.Core.Path.{refl}

@@ -1,6 +1,5 @@
 use Rattle.frames.specs.Layout.{isStatement}
-use Rattle.rows.proofs.Rows.{told}
-use Rattle.frames.proofs.Chains.{both-first, both-second}
+use Rattle.frames.proofs.Chains.{both-first, both-second, told}
 use Rattle.frames.specs.Table.{badReference}
 use borrow.Author.Needs.{needs}
 use mathlib.Core.Path.{refl}

@@ -1,4 +1,4 @@
-use Rattle.rows.proofs.Rows.{either-of}
+use Rattle.frames.proofs.Chains.{either-of}
 use mathlib.Core.Path.{refl}
 use Rattle.frames.specs.Logic.{below, equal, oneOf}
 use borrow.Author.Needs.{needs}

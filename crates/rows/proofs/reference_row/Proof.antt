@@ -1,4 +1,4 @@
-use Rattle.rows.proofs.Rows.{either-of, moved}
+use Rattle.frames.proofs.Chains.{either-of, moved}
 use mathlib.Core.Path.{refl}
 use Rattle.frames.specs.Logic.{both, oneOf}
 use borrow.Author.Needs.{needs}

@@ -1,3 +1,4 @@
+use Rattle.frames.proofs.Chains.{equal-eqb, moved}
 use Rattle.frames.specs.Logic.{equal}
 use Rattle.frames.specs.Table.{constant}
 use borrow.Author.Needs.{needs}
@@ -11,8 +12,8 @@ class-of-requires : tie.Need-class-of-requires
 class-of-requires c κs = search needs
 
 returns : tie.Need-returns
-unfolding constant equal
-returns c = cc
+unfolding constant
+returns c = moved (λ k. equal k 0) (equal-eqb (c .class-of .result) 0) (c .class-of .ensures)
 
 pub is-constant-spec : {M : Type 1} → statement M
 is-constant-spec = tie.close (tie.spec class-of-requires returns)
