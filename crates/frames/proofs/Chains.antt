@@ -1,7 +1,7 @@
 -- How a chain of tests is decided, for the functions that return at the first test that settles the answer: each law takes one
--- test away, so that a proof follows the code's own returns. `chain` is all of them, for `search`.
+-- test away, so that a proof follows the code's own returns.
 use Prim.Native.Nat.{ℕ, _<_, _≤_}
-use mathlib.Core.Path.{_≡_, refl}
+use mathlib.Core.Path.{_≡_, refl, sym, ap, _∙_}
 use mathlib.Core.Bool.{Bool, true, false}
 use mathlib.Core.List.{List, [], _∷_}
 use lib.Dec.{eqb}
@@ -118,6 +118,20 @@ equal-true a b e = eqb-true a b e
 pub equal-false : (a b : ℕ) → equal a b ≡ false → a ≡ b → ⊥
 unfolding equal
 equal-false a b e = eqb-false a b e
+
+-- Answers carried along equations: what a callee tells of the value that it was handed, told of the value that the definition
+-- names. A proof that hands these laws its facts is checked much quicker than one by `cc` over all that is known at its place.
+-- Here `r` answers for x, so it answers for y
+pub moved : {A B : Type 0} (p : A → B) {x y : A} {r : B} → r ≡ p x → x ≡ y → r ≡ p y
+moved p e g = e ∙ ap p g
+
+-- and where `r` is known
+pub told : {A B : Type 0} (p : A → B) {x y : A} {r b : B} → r ≡ p x → x ≡ y → r ≡ b → p y ≡ b
+told p e g h = sym (moved p e g) ∙ h
+
+-- one of two tests, each told by an answer
+pub either-of : {t t′ u u′ r : Bool} → r ≡ either t u → t ≡ t′ → u ≡ u′ → r ≡ either t′ u′
+either-of e g h = cc
 
 -- row 5 on answers that are equal
 pub reference-same : {d d′ k k′ g g′ v v′ p p′ r r′ a a′ : Bool} → d ≡ d′ → k ≡ k′ → g ≡ g′ → v ≡ v′ → p ≡ p′ → r ≡ r′ → a ≡ a′

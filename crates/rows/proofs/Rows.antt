@@ -1,21 +1,13 @@
--- Answers carried along equations: what a callee tells of the value that it was handed, told of the value that the definition
--- names. A proof that hands these laws the facts is checked much quicker than one by `cc` over all that is known at its place.
+-- The rows carried along equations: what a callee tells of the numbers that it was handed, told of those that the definition names.
 use Prim.Native.Nat.{ℕ}
-use mathlib.Core.Path.{_≡_, sym, ap, _∙_}
+use mathlib.Core.Path.{_≡_}
 use mathlib.Core.Bool.{Bool}
 use mathlib.Core.List.{List, [], _∷_}
 use lib.Dec.{ltb}
-use Rattle.frames.specs.Logic.{below, atMost, equal, both, either, no, oneOf, rows}
+use Rattle.frames.proofs.Chains.{moved}
+use Rattle.frames.specs.Logic.{below, atMost, equal, both, no, oneOf, rows}
 use Rattle.frames.specs.Layout.{isStatement}
 use Rattle.frames.specs.Table.{unknownKind, badRest, noSymbols, floats, floatsBelow}
-
--- `r` answers for x, so it answers for y
-pub moved : {A B : Type 0} (p : A → B) {x y : A} {r : B} → r ≡ p x → x ≡ y → r ≡ p y
-moved p e g = e ∙ ap p g
-
--- and where `r` is known
-pub told : {A B : Type 0} (p : A → B) {x y : A} {r b : B} → r ≡ p x → x ≡ y → r ≡ b → p y ≡ b
-told p e g h = sym (moved p e g) ∙ h
 
 -- a list read by its count and its start
 pub rows-moved : {A B : Type 0} (q : List A → B) (read : ℕ → A) (step : ℕ) {n n′ from from′ : ℕ} {r : B}
@@ -27,10 +19,6 @@ pub floats-told : (f stmts : List ℕ) (limit v : ℕ) {s x : ℕ} {t r b : Bool
     → s ≡ x → r ≡ b → floatsBelow f stmts limit v x ≡ b
 unfolding floatsBelow below
 floats-told f stmts limit v e g h k = cc
-
--- one of two tests, each told by an answer
-pub either-of : {t t′ u u′ r : Bool} → r ≡ either t u → t ≡ t′ → u ≡ u′ → r ≡ either t′ u′
-either-of e g h = cc
 
 -- the rows on numbers and answers that are equal
 pub record-moved : (len head : ℕ) {next next′ length length′ kind kind′ class class′ from from′ size size′ n n′ : ℕ} {r : Bool}

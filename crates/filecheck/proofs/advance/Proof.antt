@@ -1,9 +1,8 @@
 -- `filecheck::advance` meets its contract: field by field, from what the calls ensure.
 use Prim.Native.Nat.{_+_}
-use Rattle.frames.proofs.Chains.{equal-eqb}
+use Rattle.frames.proofs.Chains.{equal-eqb, moved}
 use Rattle.frames.specs.Layout.{isStatement}
 use Rattle.frames.specs.Logic.{equal, pick}
-use Rattle.rows.proofs.Rows.{moved}
 use borrow.Author.Needs.{needs}
 use lib.ListN.{set}
 use Rattle.filecheck.proofs.advance.Statement.{statement}

@@ -1,6 +1,5 @@
 -- `rows::are_variables` meets its contract: each return is the case of the definition that the tests on the way to it pick.
-use Rattle.rows.proofs.Rows.{moved, told}
-use Rattle.frames.proofs.Chains.{both-first, both-second}
+use Rattle.frames.proofs.Chains.{both-first, both-second, moved, told}
 use Rattle.frames.specs.Layout.{pairAt}
 use Rattle.frames.specs.Table.{variable, variables}
 use borrow.Author.Needs.{needs}

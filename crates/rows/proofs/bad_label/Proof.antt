@@ -1,8 +1,7 @@
 -- `rows::bad_label` meets its contract: each return is the case of the definition that the tests on the way to it pick.
 use Rattle.frames.specs.Layout.{isStatement}
 use Rattle.frames.specs.Logic.{all}
-use Rattle.rows.proofs.Rows.{moved, told}
-use Rattle.frames.proofs.Chains.{both-first, both-second, either-first, either-second, no-of-false, no-of-true}
+use Rattle.frames.proofs.Chains.{both-first, both-second, either-first, either-second, moved, no-of-false, no-of-true, told}
 use Rattle.frames.specs.Table.{badLabel, labelByte, used}
 use borrow.Author.Needs.{needs}
 use mathlib.Core.Path.{refl}

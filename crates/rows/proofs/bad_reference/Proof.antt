@@ -1,7 +1,6 @@
 -- `rows::bad_reference` meets its contract: each return is the case of the definition that the tests on the way to it pick.
 use Rattle.frames.specs.Layout.{isStatement}
-use Rattle.rows.proofs.Rows.{told}
-use Rattle.frames.proofs.Chains.{both-first, both-second}
+use Rattle.frames.proofs.Chains.{both-first, both-second, told}
 use Rattle.frames.specs.Table.{badReference}
 use borrow.Author.Needs.{needs}
 use mathlib.Core.Path.{refl}

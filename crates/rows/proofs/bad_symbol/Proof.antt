@@ -1,7 +1,6 @@
 -- `rows::bad_symbol` meets its contract: each return is the case of the definition that the tests on the way to it pick.
 use Rattle.frames.specs.Logic.{all}
-use Rattle.rows.proofs.Rows.{moved, told}
-use Rattle.frames.proofs.Chains.{both-first, both-second, either-first, either-second, equal-no, equal-yes, no-of-false, no-of-true}
+use Rattle.frames.proofs.Chains.{both-first, both-second, either-first, either-second, equal-no, equal-yes, moved, no-of-false, no-of-true, told}
 use Rattle.frames.specs.Table.{badSymbol, nameByte, used}
 use borrow.Author.Needs.{needs}
 use mathlib.Core.Path.{_∙_, refl, sym}

@@ -1,9 +1,8 @@
 -- `rows::is_framed` meets its contract: each return is the case of the definition that the tests on the way to it pick.
 use Rattle.frames.specs.Layout.{kindAt, symbolsAt, u32, variableAt}
 use Rattle.frames.specs.Logic.{no, rows}
-use Rattle.rows.proofs.Rows.{moved, told}
 use mathlib.Core.Path.{_∙_}
-use Rattle.frames.proofs.Chains.{equal-no, equal-yes, pick-first, pick-second}
+use Rattle.frames.proofs.Chains.{equal-no, equal-yes, moved, pick-first, pick-second, told}
 use Rattle.frames.specs.Table.{allGiven, given, hypFramed}
 use borrow.Author.Needs.{needs}
 use Rattle.rows.proofs.is_framed.Statement.{statement}

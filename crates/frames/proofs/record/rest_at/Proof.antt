@@ -1,4 +1,4 @@
--- `frames::record::rest_at` meets its contract: the equations that its calls ensure are joined to the definition by `cc`.
+-- `frames::record::rest_at` meets its contract: what its calls ensure is joined to the definition.
 use Rattle.frames.specs.Layout.{restAt}
 use borrow.Author.Needs.{needs}
 use Rattle.frames.proofs.record.rest_at.Statement.{statement}

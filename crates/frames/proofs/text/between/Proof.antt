@@ -1,4 +1,4 @@
--- `frames::text::between` meets its contract: the equations that its calls ensure are joined to the definition by `cc`.
+-- `frames::text::between` meets its contract: what its calls ensure is joined to the definition.
 use Rattle.frames.specs.Logic.{atMost}
 use borrow.Author.Needs.{needs}
 use Rattle.frames.proofs.text.between.Statement.{statement}

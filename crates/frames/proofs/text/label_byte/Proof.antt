@@ -1,4 +1,6 @@
--- `frames::text::label_byte` meets its contract: the equations that its calls ensure are joined to the definition by `cc`.
+-- `frames::text::label_byte` meets its contract: what its calls ensure is joined to the definition.
+use mathlib.Core.Path.{refl}
+use Rattle.frames.proofs.Chains.{either-of}
 use Rattle.frames.specs.Logic.{equal, oneOf}
 use Rattle.frames.specs.Table.{labelByte}
 use borrow.Author.Needs.{needs}
@@ -34,7 +36,7 @@ either-requires-6 c κs = search needs
 
 returns : tie.Need-returns
 unfolding labelByte oneOf equal
-returns c = cc
+returns c = either-of (c .either6 .ensures) (c .before .before .before .between2 .ensures) (either-of (c .before .either5 .ensures) (c .before .before .between3 .ensures) (either-of (c .before .before .before .before .either4 .ensures) (c .before .before .before .before .before .between .ensures) (either-of (c .before .before .before .before .before .before .either3 .ensures) refl (either-of (c .before .before .before .before .before .before .before .either2 .ensures) refl (c .before .before .before .before .before .before .before .before .either .ensures)))))
 
 pub label-byte-spec : {M : Type 1} → statement M
 label-byte-spec =

@@ -1,4 +1,4 @@
--- `frames::text::name_byte` meets its contract: the equations that its calls ensure are joined to the definition by `cc`.
+-- `frames::text::name_byte` meets its contract: what its calls ensure is joined to the definition.
 use Rattle.frames.specs.Logic.{equal}
 use Rattle.frames.specs.Table.{nameByte}
 use borrow.Author.Needs.{needs}
