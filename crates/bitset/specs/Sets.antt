@@ -34,7 +34,7 @@ union [] vs = vs
 union (a ∷ ws) [] = a ∷ ws
 union (a ∷ ws) (b ∷ vs) = bitOr a b ∷ union ws vs
 
--- the words of a set of so many bits: as many words as that takes, each below 2 ^ 64. Every set's words are such, by their type
+-- the words of a set of so many bits: as many words as that takes, each below 2 ^ 64.
 pub record Words (bits : ℕ) (ws : List ℕ) : Type 0 where
   pub sized : size ws ≡ bits
   pub small : (i : ℕ) → getD ws i 0 < 2 ^ 64
@@ -73,7 +73,7 @@ pub data Rising : ℕ → List ℕ → Type 0 where
   none : {n : ℕ} → Rising n []
   next : {n x : ℕ} {xs : List ℕ} → n ≤ x → Rising (x + 1) xs → Rising n (x ∷ xs)
 
--- the set has no member
+-- the set of k words with no member
 pub record Empty (ws : List ℕ) (k : ℕ) : Type 0 where
   pub none : (m : ℕ) → member ws m ≡ false
   pub is : ws ≡ empty k
@@ -84,7 +84,7 @@ pub record Added (ws : List ℕ) (n : ℕ) (now : List ℕ) : Type 0 where
   pub refused : size ws ≤ n → now ≡ ws
   pub is : now ≡ insert ws n
 
--- exactly the members of both
+-- exactly what is a member of the one or of the other
 pub record United (a b now : List ℕ) : Type 0 where
   pub exactly : (m : ℕ) → member now m ≡ (member a m || member b m)
   pub is : now ≡ union a b

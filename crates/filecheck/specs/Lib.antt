@@ -1,1 +1,2 @@
+-- What the file check does besides answering the verdict.
 pub mod Walk

@@ -1,3 +1,4 @@
+-- The laws that the proofs of several functions cite.
 pub mod Parts
 pub mod Chains
 pub mod Loops

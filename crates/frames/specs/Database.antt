@@ -15,7 +15,8 @@ pub record Symbol : Type 0 where
   pub name : List ℕ
 
 -- a statement: its offset, kind ($f 2, $e 3, $a 4, $p 5), scope end (of a $f or $e), the hypotheses and pairs that it lists, its
--- symbols with the typecode first (a $f has its typecode and its variable), its label, and the proof text of a $p
+-- symbols with the typecode first (a $f has its typecode and its variable), its label, and the proof text of a $p. The end of a $a
+-- or $p and the text of any other statement mean nothing
 pub record Statement : Type 0 where
   pub at : ℕ
   pub kind : ℕ
@@ -56,6 +57,6 @@ decode f ix = record { symbols = map (symbolAt f) (ix .symbols); statements = ma
 unfoldable pub database : List ℕ → Database
 database f = decode f (index f)
 
--- a good file: the verdict is `Good`, with the numbers of its symbols and statements
+-- a good file: the verdict is `Good`, with how many symbols and statements it has
 pub record GoodFile (f : List ℕ) : Type 0 where
   pub is : verdict f ≡ Good (length (database f .symbols)) (length (database f .statements))

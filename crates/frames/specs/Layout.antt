@@ -1,5 +1,11 @@
 -- Where the parts of a record lie: the layout table of the frame file, on the file's bytes. A record is named by its offset,
--- that of its first length byte. Every reader is total: a byte past the end of the file reads as 0.
+-- that of its first length byte. Every reader is total: a byte past the end of the file reads as 0. Offsets within the record:
+--   length 0, kind 4, body 6
+--   1 symbol     class 6; name 7
+--   2 $f         scope end 6, typecode 10, variable 12; label 14
+--   3 $e         scope end 6, n 10; n symbols 12; label
+--   4 $a, 5 $p   h 6, d 8, n 10; h statement numbers 12, d pairs, n symbols; label
+--   6 proof      text 6
 use Prim.Native.Nat.{ℕ, _+_, _-_, _*_}
 use mathlib.Core.Bool.{Bool}
 use mathlib.Core.List.{List, [], _∷_}
@@ -27,7 +33,7 @@ kindAt f o = u16 f (o + 4)
 unfoldable pub nextAt : List ℕ → ℕ → ℕ
 nextAt f o = o + 4 + lengthAt f o
 
--- the fixed part of each body, by kind
+-- the fixed part of each body, by kind (there is no kind 0)
 unfoldable pub fixedSize : ℕ → ℕ
 fixedSize k = getD (0 ∷ 1 ∷ 8 ∷ 6 ∷ 6 ∷ 6 ∷ 0 ∷ []) k 0
 

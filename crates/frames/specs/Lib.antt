@@ -1,3 +1,4 @@
+-- The definitions of the frame file, in the order in which they are read.
 pub mod Logic
 pub mod Layout
 pub mod Table

@@ -1,4 +1,5 @@
--- When the file is turned away: a definition for each row of the table, in the table's words. `f` is the file, `o` the offset of
+-- When the file is turned away: rows 1 to 7 of the table, in its words. A row is asked only where no row before it holds, so rows
+-- 2 to 7 may take the layout for good, and row 6 the numbers for defined. `f` is the file, `o` the offset of
 -- the record under judgement, `syms` and `stmts` the offsets of the symbols and of the statements before it, in file order: a
 -- symbol number or a statement number counts into them, and the record's own statement number is the length of `stmts`.
 use Prim.Native.Nat.{ℕ, _+_}
@@ -35,7 +36,8 @@ badRecord f o =
     ∷ noSymbols (kindAt f o) (listedCount f o)
     ∷ [])
 
--- 2 TooMany: a limit is passed: 4,096 symbols, 4,096 statements, h 64, d 512, n 1,024, proof text 65,536 bytes
+-- 2 TooMany: a limit is passed: 4,096 symbols, 4,096 statements, h 64, d 512, n 1,024, proof text 65,536 bytes (the whole file: see
+-- `outcome`)
 unfoldable pub tooMany : List ℕ → List ℕ → List ℕ → ℕ → Bool
 tooMany f syms stmts o =
     oneOf
@@ -47,7 +49,7 @@ tooMany f syms stmts o =
     ∷ both (equal (kindAt f o) 6) (below 65536 (restSize f o))
     ∷ [])
 
--- name bytes are 21 to 7E hex without 24 (`$`)
+-- name bytes are 21 to 7E hex (33 to 126) without 24 hex (36, `$`)
 unfoldable pub nameByte : ℕ → Bool
 nameByte b = both (both (atMost 33 b) (atMost b 126)) (no (equal b 36))
 
@@ -108,8 +110,7 @@ defined syms s = below s (length syms)
 unfoldable pub variables : List ℕ → List ℕ → ℕ × ℕ → Bool
 variables f syms p = both (variable f syms (p .0)) (variable f syms (p .1))
 
--- 5 BadReference: number not defined earlier; typecode not a constant; $f or pair member not a variable; h list not strictly
--- rising, not all $f/$e, or not all active here
+-- row 5 of a statement; a pair member or hypothesis that is not defined earlier fails in its own line
 unfoldable pub badNumbers : List ℕ → List ℕ → List ℕ → ℕ → Bool
 badNumbers f syms stmts o =
     oneOf
@@ -121,6 +122,8 @@ badNumbers f syms stmts o =
     ∷ no (all (active f stmts (length stmts)) (hypsAt f o))
     ∷ [])
 
+-- 5 BadReference: number not defined earlier; typecode not a constant; $f or pair member not a variable; h list not strictly
+-- rising, not all $f/$e, or not all active here
 unfoldable pub badReference : List ℕ → List ℕ → List ℕ → ℕ → Bool
 badReference f syms stmts o = both (isStatement (kindAt f o)) (badNumbers f syms stmts o)
 
@@ -155,8 +158,7 @@ hypFramed f syms stmts hyps h =
 unfoldable pub equalMembers : ℕ × ℕ → Bool
 equalMembers p = equal (p .0) (p .1)
 
--- 6 BadFrame: a variable of the claim or of a listed $e has no listed $f, or has it after that $e; two listed $f for one
--- variable; a pair of equal members
+-- row 6 of a $a or $p: its claim, its listed hypotheses, its pairs
 unfoldable pub badAssertion : List ℕ → List ℕ → List ℕ → ℕ → Bool
 badAssertion f syms stmts o =
     oneOf
@@ -165,9 +167,12 @@ badAssertion f syms stmts o =
     ∷ any equalMembers (pairsAt f o)
     ∷ [])
 
+-- 6 BadFrame: a variable of the claim or of a listed $e has no listed $f, or has it after that $e; two listed $f for one
+-- variable; a pair of equal members
 unfoldable pub badFrame : List ℕ → List ℕ → List ℕ → ℕ → Bool
 badFrame f syms stmts o = both (asserts (kindAt f o)) (badAssertion f syms stmts o)
 
--- 7 NoProof: the record right after a $p is not kind 6; kind 6 elsewhere (`owed`: the record before this one is a $p)
+-- 7 NoProof: the record right after a $p is not kind 6; kind 6 elsewhere (`owed`: the record before this one is a $p; a
+-- $p last in the file: see `atEnd`)
 unfoldable pub noProof : List ℕ → Bool → ℕ → Bool
 noProof f owed o = pick owed (no (equal (kindAt f o) 6)) (equal (kindAt f o) 6)

@@ -35,7 +35,7 @@ pub record Index : Type 0 where
 unfoldable pub nothing : Index
 nothing = record { symbols = []; statements = []; owed = false }
 
--- the refusal where the test holds
+-- the refusal where the test holds, else what the rest says
 unfoldable pub unless : Bool → Refusal → Fault → Fault
 unless true why rest = Is why
 unless false why rest = rest
@@ -82,7 +82,8 @@ unfoldable pub decided : Fault → ℕ → Index → Outcome → Outcome
 decided Fine o ix rest = rest
 decided (Is why) o ix rest = refusal why o ix
 
--- the records from offset `o` on; the first number only bounds how many there can be
+-- the records from offset `o` on; the first number only bounds how many there can be: a good record takes at least 6 bytes, so
+-- that `length f + 1` is never used up
 unfoldable pub walk : ℕ → List ℕ → Index → ℕ → Outcome
 walk zero f ix o = atEnd f ix
 walk (suc k) f ix o =
@@ -108,8 +109,9 @@ index f = outcome f .index
 unfoldable pub laid : List ℕ → List ℕ → List ℕ
 laid offsets table = offsets ++ drop (length offsets) table
 
--- what the file check promises: the answer is the file's verdict; the front of each table holds the offsets of the symbols and of the statements that were
--- read, in file order, and its other entries are as they were
+-- what the file check promises: the answer is the file's verdict; the front of each table holds the offsets of the symbols and of
+-- the statements that were read, in file order, and its other entries are as they were. The tables are handed back to the call that
+-- lent them, and that call clears them
 pub record Checked (f syms stmts syms′ stmts′ : List ℕ) (answer : Verdict) : Type 0 where
   pub answers : answer ≡ verdict f
   pub symbols-laid : syms′ ≡ laid (index f .symbols) syms
