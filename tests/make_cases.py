@@ -1,6 +1,6 @@
 #!/usr/bin/env python3
 # Writes the replayed list of frame files: crates/frames_replay/stdin (the files, packed) and
-# crates/frames_replay/stdout (their verdicts, which were stated by hand from document 01).
+# crates/frames_replay/stdout (their verdicts: by hand from document 01 in cases/, stored for corpus and vectors).
 #   make_cases.py                    write both
 #   make_cases.py --check            say whether both are what this script would write
 #   make_cases.py --write-files DIR  write each file as DIR/NAME.frames, and DIR/expected.txt

@@ -1,3 +1,4 @@
+// A port of src/bit_set.rs of metamath-rs 0.3.9, changed (see NOTICE).
 // Sets of small numbers, by value: a bit for each number below `Bitset::BITS`, in `Bitset::WORDS` words of 64.
 // The contracts say what a set's words are by definitions over a list of words of any length (specs/Sets.antt), and the
 // laws say what its members are (proofs/Laws.antt, proofs/Listed.antt). No method has a `requires`.

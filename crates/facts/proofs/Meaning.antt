@@ -1,5 +1,6 @@
 -- The table's tests say what the facts say. A test reads the front of the index, as it was when the record was judged; what it
--- reads there is what the whole index holds, so the test holds exactly when the fact holds of the decoded database.
+-- reads there is what the whole index holds, so a test that holds gives the fact of the decoded database; for variables and $f also
+-- the other way.
 use Prim.Native.Nat.{ℕ, _≤_, _<_}
 use mathlib.Core.Path.{_≡_, sym}
 use mathlib.Core.Bool.{true}

@@ -1,5 +1,5 @@
 // The fields of a symbol or a statement, in the words of the decoded database, read where its record lies in the file. A record
-// is named by its offset, which `offset` finds in the index by the symbol's or the statement's number.
+// is named by its offset, which `symbol_offset` or `statement_offset` finds in the index.
 ghost use mathlib.Core.Path.{_≡_};
 ghost use Prim.Native.Nat.{_<_};
 ghost use lib.ListN.{length, getD};

@@ -1,4 +1,4 @@
-// The frame file: the check of a file's bytes, and readers of its records.
+// The frame file: its refusals and verdicts, and readers of its records. The check of a whole file is in the crate filecheck.
 ghost use mathlib.Core.Path.{_≡_};
 ghost use Rattle.frames.specs.Verdict.{numberOf};
 

@@ -1,4 +1,4 @@
-// Total readers of the file's bytes: a byte past the end reads as 0.
+// Total readers of the file's bytes: a byte past the end reads as 0. Numbers ask only that their offset is far from the end of `usize`.
 ghost use mathlib.Core.Path.{_≡_};
 ghost use Prim.Native.Nat.{_<_, _^_, _+_};
 ghost use lib.ListN.{take, drop};

@@ -1,1 +1,2 @@
+-- The answer as numbers.
 pub mod Answer

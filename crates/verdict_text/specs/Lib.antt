@@ -1,1 +1,2 @@
+-- The line that tells a verdict.
 pub mod Text
