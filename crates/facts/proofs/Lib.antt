@@ -12,3 +12,4 @@ pub mod GoodStatements
 pub mod GoodFacts
 pub mod Unique
 pub mod InOrder
+pub mod Searches

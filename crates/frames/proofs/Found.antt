@@ -62,3 +62,6 @@ finds-used f os text r i e h =
 
 pub finds-unused : (f os text : List ℕ) (r : Found) → r ≡ Nothing → Finds f os text r → false ≡ used f os text
 finds-unused f os text r e h = sym (subst (Finds f os text) e h)
+
+pub finds-at : (f os text : List ℕ) (r : Found) (i : ℕ) → r ≡ At i → Finds f os text r → (i < length os) × (restAt f (getD os i 0) ≡ text)
+finds-at f os text r i e h = subst (Finds f os text) e h

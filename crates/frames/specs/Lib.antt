@@ -3,6 +3,6 @@ pub mod Logic
 pub mod Layout
 pub mod Table
 pub mod Verdict
-pub mod Search
 pub mod Database
+pub mod Search
 pub mod Facts

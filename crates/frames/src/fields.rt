@@ -5,11 +5,14 @@ ghost use Prim.Native.Nat.{_<_};
 ghost use lib.ListN.{length, getD};
 ghost use Rattle.frames.specs.Layout.{nextAt};
 ghost use Rattle.frames.specs.Database.{symbolAt, statementAt};
+ghost use Rattle.frames.specs.Search.{FindsSymbol, FindsStatement};
 use crate::numbers::StatementNo;
 use crate::numbers::SymbolNo;
 use crate::record;
 use crate::refer;
 use crate::refer::Pair;
+use crate::text::Found;
+use crate::text::find;
 
 // The offset of a symbol's record; 0 for a number that is not defined.
 pub fn symbol_offset(symbols: &[u32], s: SymbolNo) -> u32
@@ -122,4 +125,36 @@ pub fn proof_text(file: &[u8], at: u32) -> &[u8]
 {
     let next = record::next_at(file, at);
     record::rest_at(file, next as u32)
+}
+
+// What a search by name finds.
+pub enum FoundSymbol {
+    Symbol(SymbolNo),
+    NoSymbol,
+}
+
+// What a search by label finds.
+pub enum FoundStatement {
+    Statement(StatementNo),
+    NoStatement,
+}
+
+// The symbol of this name.
+pub fn find_symbol(file: &[u8], symbols: &[u32], name: &[u8]) -> FoundSymbol
+    ensures { λ r. ⌜ FindsSymbol (now (file .entry)) (now (symbols .entry)) (now (name .entry)) r ⌝ }
+{
+    match find(file, symbols, name) {
+        Found::At(i) => FoundSymbol::Symbol(SymbolNo(i)),
+        Found::Nothing => FoundSymbol::NoSymbol,
+    }
+}
+
+// The statement of this label.
+pub fn find_statement(file: &[u8], statements: &[u32], label: &[u8]) -> FoundStatement
+    ensures { λ r. ⌜ FindsStatement (now (file .entry)) (now (statements .entry)) (now (label .entry)) r ⌝ }
+{
+    match find(file, statements, label) {
+        Found::At(i) => FoundStatement::Statement(StatementNo(i)),
+        Found::Nothing => FoundStatement::NoStatement,
+    }
 }
