@@ -9,17 +9,26 @@ use native.Mathlib.Omega.{arith}
 use native.Mathlib.Decide.{ℕ-discrete}
 use lib.ListN.{length, getD, length-map}
 use Rattle.frames.specs.Logic.{equal, either}
-use Rattle.frames.specs.Layout.{asserts, supposes, listsSymbols, isStatement}
+use Rattle.frames.specs.Layout.{asserts, supposes, listsSymbols, isStatement, kindAt, nextAt, scopeEndAt, restAt}
 use Rattle.frames.specs.Verdict.{Index, index}
 use Rattle.frames.specs.Database.{symbolAt, statementAt, decode, database}
 use Rattle.frames.specs.Facts.{symbolOf, statementOf}
-use Rattle.frames.proofs.Chains.{equal-yes, equal-no, equal-true, either-first, either-second}
+use Rattle.frames.proofs.Chains.{pick-first, equal-yes, equal-no, equal-true, either-first, either-second}
 use Rattle.frames.proofs.Tells.{either-cases}
 
 getD-map : {A B : Type 0} (g : A → B) (xs : List A) (i : ℕ) (d : A) (e : B) → i < length xs → getD (map g xs) i e ≡ g (getD xs i d)
 getD-map g [] i d e h = absurd (omega arith)
 getD-map g (x ∷ xs) zero d e h = refl
 getD-map g (x ∷ xs) (suc i) d e h = getD-map g xs i d e (omega arith)
+
+-- the scope end of a $f or $e, and the proof text of a $p
+pub end-read : (f : List ℕ) (o : ℕ) → supposes (kindAt f o) ≡ true → statementAt f o .end ≡ scopeEndAt f o
+unfolding statementAt
+end-read f o e = sym (pick-first 0 e refl)
+
+pub text-read : (f : List ℕ) (o : ℕ) → kindAt f o ≡ 5 → statementAt f o .text ≡ restAt f (nextAt f o)
+unfolding statementAt
+text-read f o e = sym (pick-first [] (equal-yes e) refl)
 
 module _ (f : List ℕ) (ix : Index) where
   pub symbols-length : length (decode f ix .symbols) ≡ length (ix .symbols)

@@ -21,7 +21,7 @@ use Rattle.frames.proofs.Fine.{WellFormed, WithinLimits, record-well-formed, li
 use Rattle.facts.proofs.Rows.{Refers, Framed, label-fresh, reference-good, frame-good}
 use Rattle.facts.proofs.History.{StatementJudged, ProofRead, History, judged-known}
 use Rattle.facts.proofs.Texts.{rest-sized, label-byte, fresh-differ}
-use Rattle.facts.proofs.Decoded.{symbols-length, statement-read, kind-range, asserts-yes, asserts-no}
+use Rattle.facts.proofs.Decoded.{text-read, symbols-length, statement-read, kind-range, asserts-yes, asserts-no}
 use Rattle.facts.proofs.Shapes
 use Rattle.facts.proofs.Meaning.{constant-is, variable-is, active-is, is-floats, all-given-is}
 
@@ -158,5 +158,5 @@ module _ (f : List ℕ) (ix : Index) (o : ℕ) (past : History f (ix .symbols) (
           claim-given = claim-bound;
           essential-given = essential-bound;
           one-float = one-listed;
-          text-size = text-fits;
+          text-size = λ k. rw (text-read f (offset ix p) k) (text-fits k);
         }

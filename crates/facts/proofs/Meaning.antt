@@ -18,7 +18,7 @@ use Rattle.frames.specs.Facts.{_∈_, statementOf, floated, Constant, Variable,
 use Rattle.frames.proofs.Chains.{pick-first, below-true, below-yes, equal-true, equal-yes, both-second}
 use Rattle.frames.proofs.Tells.{true-not-false, both-true, either-cases, all-member, any-witness, no-true}
 use Rattle.facts.proofs.Kept.{pick-cases}
-use Rattle.facts.proofs.Decoded.{symbols-length, symbol-read, statement-read, supposes-kind}
+use Rattle.facts.proofs.Decoded.{end-read, symbols-length, symbol-read, statement-read, supposes-kind}
 
 -- a number whose class is 0 or 1 is defined, and its record has that class
 class-read : (f syms : List ℕ) (n s c : ℕ) → c < 2 → classOf f (take n syms) s ≡ c
@@ -70,7 +70,7 @@ module _ (f : List ℕ) (ix : Index) where
         record {
           earlier = l;
           kind = rw (read h l) (supposes-kind _ (g .0));
-          scope = rw (read h l) (either-cases _ _ (λ t. inl (equal-true _ _ t)) (λ t. inr (below-true _ _ t)) (g .1));
+          scope = rw (read h l) (rw (end-read f (getD (ix .statements) h 0) (g .0)) (either-cases _ _ (λ t. inl (equal-true _ _ t)) (λ t. inr (below-true _ _ t)) (g .1)));
         }
 
     pub floats-is : (v h : ℕ) → h < p → floats f (take p (ix .statements)) v h ≡ true → Floats (decode f ix) v h

@@ -15,7 +15,7 @@ use Rattle.frames.specs.Facts.{symbolOf, statementOf, Active}
 use Rattle.frames.proofs.Chains.{below-yes, below-true, equal-yes, equal-true, either-first, both-second}
 use Rattle.frames.proofs.Found.{used-index}
 use Rattle.frames.proofs.Tells.{true-not-false, both-true, either-cases}
-use Rattle.facts.proofs.Decoded.{symbol-read, statement-read, supposes-kind}
+use Rattle.facts.proofs.Decoded.{end-read, symbol-read, statement-read, supposes-kind}
 
 -- the second test decides where it holds
 either-settled : (t u : Bool) → u ≡ true → either t u ≡ true
@@ -38,10 +38,12 @@ module _ (f : List ℕ) (ix : Index) where
   pub is-active : (p h : ℕ) → h < length (ix .statements) → Active (decode f ix) p h → active f (ix .statements) p h ≡ true
   unfolding active statementAt
   is-active p h l v =
+      let k = supposes-told _ (rw (statement-read f ix h l) at (v .kind)) in
       sym
       (both-second (below-yes (v .earlier))
-      (both-second (supposes-told _ (rw (statement-read f ix h l) at (v .kind)))
-      (sym (within-told _ p (rw (statement-read f ix h l) at (v .scope))))))
+      (both-second k
+      (sym
+      (within-told _ p (rw (end-read f (getD (ix .statements) h 0) k) at (rw (statement-read f ix h l) at (v .scope)))))))
 
   -- and what passes the test is active
   pub active-means : (p h : ℕ) → h < length (ix .statements) → active f (ix .statements) p h ≡ true → Active (decode f ix) p h
@@ -52,7 +54,10 @@ module _ (f : List ℕ) (ix : Index) where
       record {
         earlier = below-true _ _ (b .0);
         kind = rw (statement-read f ix h l) (supposes-kind _ (g .0));
-        scope = rw (statement-read f ix h l) (either-cases _ _ (λ t. inl (equal-true _ _ t)) (λ t. inr (below-true _ _ t)) (g .1));
+        scope =
+            rw (statement-read f ix h l)
+            (rw (end-read f (getD (ix .statements) h 0) (g .0))
+            (either-cases _ _ (λ t. inl (equal-true _ _ t)) (λ t. inr (below-true _ _ t)) (g .1)));
       }
 
   -- the symbol that a search finds has the name

@@ -2,9 +2,10 @@
 -- number or a statement number counts into these lists.
 use Prim.Native.Nat.{ℕ}
 use mathlib.Core.Path.{_≡_}
-use mathlib.Core.List.{List, map}
+use mathlib.Core.List.{List, [], map}
 use lib.ListN.{length}
-use Rattle.frames.specs.Layout.{kindAt, nextAt, classAt, scopeEndAt, restAt, hypsAt, pairsAt, symbolsAt}
+use Rattle.frames.specs.Logic.{equal, pick}
+use Rattle.frames.specs.Layout.{supposes, kindAt, nextAt, classAt, scopeEndAt, restAt, hypsAt, pairsAt, symbolsAt}
 use Rattle.frames.specs.Verdict.{Index, verdict, index}
 use Rattle.frames.specs.declared.Verdict.the-variants.{Good}
 
@@ -14,9 +15,9 @@ pub record Symbol : Type 0 where
   pub class : ℕ
   pub name : List ℕ
 
--- a statement: its offset, kind ($f 2, $e 3, $a 4, $p 5), scope end (of a $f or $e), the hypotheses and pairs that it lists, its
--- symbols with the typecode first (a $f has its typecode and its variable), its label, and the proof text of a $p. The end of a $a
--- or $p and the text of any other statement mean nothing
+-- a statement: its offset, kind ($f 2, $e 3, $a 4, $p 5), scope end (0 for a $a or $p), the hypotheses and pairs that it lists, its
+-- symbols with the typecode first (a $f has its typecode and its variable), its label, and the proof text (empty for
+-- all but a $p)
 pub record Statement : Type 0 where
   pub at : ℕ
   pub kind : ℕ
@@ -41,12 +42,12 @@ statementAt f o =
     record {
       at = o;
       kind = kindAt f o;
-      end = scopeEndAt f o;
+      end = pick (supposes (kindAt f o)) (scopeEndAt f o) 0;
       hyps = hypsAt f o;
       pairs = pairsAt f o;
       symbols = symbolsAt f o;
       label = restAt f o;
-      text = restAt f (nextAt f o);
+      text = pick (equal (kindAt f o) 5) (restAt f (nextAt f o)) [];
     }
 
 -- the records at these offsets

@@ -50,11 +50,14 @@ pub fn kind(file: &[u8], at: u32) -> usize
     record::kind_at(file, at)
 }
 
-// The scope end of a $f or $e.
+// The scope end of a $f or $e; 0 for a $a or $p.
 pub fn scope_end(file: &[u8], at: u32) -> usize
     ensures { λ r. ⌜ r ≡ statementAt (now (file .entry)) at .end ⌝ }
 {
-    record::scope_end_at(file, at)
+    if record::is_hypothesis(record::kind_at(file, at)) {
+        return record::scope_end_at(file, at);
+    }
+    0
 }
 
 pub fn label(file: &[u8], at: u32) -> &[u8]
@@ -118,13 +121,16 @@ pub fn variable(file: &[u8], at: u32) -> SymbolNo
     refer::symbol(file, at, 1)
 }
 
-// The proof text of a $p, as a part of the file: the rest of the record that follows it.
+// The proof text of a $p, as a part of the file: the rest of the record that follows it. Any other statement has none.
 pub fn proof_text(file: &[u8], at: u32) -> &[u8]
     requires { ⌜ nextAt (now file) at < 4294967296 ⌝ }
     ensures { λ r. ⌜ now r ≡ statementAt (now (file .entry)) at .text ⌝ }
 {
-    let next = record::next_at(file, at);
-    record::rest_at(file, next as u32)
+    if record::kind_at(file, at) == 5 {
+        let next = record::next_at(file, at);
+        return record::rest_at(file, next as u32);
+    }
+    &file[..0]
 }
 
 // What a search by name finds.
