@@ -9,7 +9,7 @@ use native.Mathlib.Omega.{arith}
 use lib.ListN.{length}
 use Rattle.frames.specs.Logic.{below, atMost, equal, both}
 use Rattle.frames.specs.Layout.{lengthAt, kindAt, nextAt, isStatement, classAt, hypCount, pairCount, listedCount, restFrom, restSize}
-use Rattle.frames.specs.Table.{unknownKind, badRest, noSymbols, badRecord, tooMany, badSymbol, badLabel, badReference, badFrame, noProof}
+use Rattle.frames.specs.Table.{unknownKind, badRest, noSymbols, cutShort, offLayout, badRecord, tooMany, badSymbol, badLabel, badReference, badFrame, noProof}
 use Rattle.frames.specs.Verdict.{unless, faultAt}
 use Rattle.frames.specs.declared.Refusal.{Refusal}
 use Rattle.frames.specs.declared.Refusal.the-variants.{BadRecord, TooMany, BadSymbol, BadLabel, BadReference, BadFrame, NoProof}
@@ -56,7 +56,6 @@ fault-fine f syms stmts owed o e =
 
 -- row 1, test by test
 pub record WellFormed (f : List ℕ) (o : ℕ) : Type 0 where
-  pub header : o + 4 ≤ length f
   pub within : nextAt f o ≤ length f
   pub long : 2 ≤ lengthAt f o
   pub kind : unknownKind (kindAt f o) ≡ false
@@ -66,25 +65,24 @@ pub record WellFormed (f : List ℕ) (o : ℕ) : Type 0 where
   pub symbols : noSymbols (kindAt f o) (listedCount f o) ≡ false
 
 pub record-well-formed : (f : List ℕ) (o : ℕ) → badRecord f o ≡ false → WellFormed f o
-unfolding badRecord
+unfolding badRecord cutShort offLayout
 record-well-formed f o e =
-    let t1 = oneOf-false (below (length f) (o + 4)) _ e in
-    let t2 = oneOf-false (below (length f) (nextAt f o)) _ (t1 .1) in
-    let t3 = oneOf-false (below (lengthAt f o) 2) _ (t2 .1) in
-    let t4 = oneOf-false (unknownKind (kindAt f o)) _ (t3 .1) in
-    let t5 = oneOf-false (both (equal (kindAt f o) 1) (below 1 (classAt f o))) _ (t4 .1) in
-    let t6 = oneOf-false (below (nextAt f o) (restFrom f o)) _ (t5 .1) in
-    let t7 = oneOf-false (badRest (kindAt f o) (restSize f o)) _ (t6 .1) in
-    let t8 = oneOf-false (noSymbols (kindAt f o) (listedCount f o)) _ (t7 .1) in
+    let t1 = oneOf-false (cutShort f o) _ e in
+    let t2 = oneOf-false (below (lengthAt f o) 2) _ (t1 .1) in
+    let t3 = oneOf-false (unknownKind (kindAt f o)) _ (t2 .1) in
+    let t4 = oneOf-false (both (equal (kindAt f o) 1) (below 1 (classAt f o))) _ (t3 .1) in
+    let t5 = oneOf-false (offLayout f o) _ (t4 .1) in
+    let t6 = oneOf-false (below (nextAt f o) (restFrom f o)) _ (t5 .0) in
+    let t7 = oneOf-false (noSymbols (kindAt f o) (listedCount f o)) _ (t6 .1) in
+    let t8 = oneOf-false (badRest (kindAt f o) (restSize f o)) _ (t7 .1) in
     record {
-      header = below-false _ _ (t1 .0);
-      within = below-false _ _ (t2 .0);
-      long = below-false _ _ (t3 .0);
-      kind = t4 .0;
-      class = t5 .0;
+      within = below-false _ _ (t1 .0);
+      long = below-false _ _ (t2 .0);
+      kind = t3 .0;
+      class = t4 .0;
       lists = below-false _ _ (t6 .0);
-      rest = t7 .0;
-      symbols = t8 .0;
+      rest = t8 .0;
+      symbols = t7 .0;
     }
 
 -- row 2, test by test

@@ -2,7 +2,7 @@
 -- 2 to 7 may take the layout for good, and row 6 the numbers for defined. `f` is the file, `o` the offset of
 -- the record under judgement, `syms` and `stmts` the offsets of the symbols and of the statements before it, in file order: a
 -- symbol number or a statement number counts into them, and the record's own statement number is the length of `stmts`.
-use Prim.Native.Nat.{ℕ, _+_}
+use Prim.Native.Nat.{ℕ}
 use mathlib.Core.Bool.{Bool}
 use mathlib.Core.List.{List, [], _∷_}
 use lib.ListN.{length, getD}
@@ -21,19 +21,28 @@ badRest k size = both (no (equal k 6)) (either (equal size 0) (below 64 size))
 unfoldable pub noSymbols : ℕ → ℕ → Bool
 noSymbols k n = both (listsSymbols k) (equal n 0)
 
--- 1 BadRecord: cut short, length below 2, unknown kind, class above 1, body not of its layout: the fixed part and the lists
--- do not fit, no good name or label is left for the rest, or n is 0
+-- cut short: the file ends before the record does
+unfoldable pub cutShort : List ℕ → ℕ → Bool
+cutShort f o = below (length f) (nextAt f o)
+
+-- the body is not of its layout: its fixed part and lists do not fit, n is 0, or its name or label has not 1 to 64 bytes
+unfoldable pub offLayout : List ℕ → ℕ → Bool
+offLayout f o =
+    oneOf
+    (below (nextAt f o) (restFrom f o)
+    ∷ noSymbols (kindAt f o) (listedCount f o)
+    ∷ badRest (kindAt f o) (restSize f o)
+    ∷ [])
+
+-- 1 BadRecord: cut short, length below 2, unknown kind, class above 1, body not of its layout
 unfoldable pub badRecord : List ℕ → ℕ → Bool
 badRecord f o =
     oneOf
-    (below (length f) (o + 4)
-    ∷ below (length f) (nextAt f o)
+    (cutShort f o
     ∷ below (lengthAt f o) 2
     ∷ unknownKind (kindAt f o)
     ∷ both (equal (kindAt f o) 1) (below 1 (classAt f o))
-    ∷ below (nextAt f o) (restFrom f o)
-    ∷ badRest (kindAt f o) (restSize f o)
-    ∷ noSymbols (kindAt f o) (listedCount f o)
+    ∷ offLayout f o
     ∷ [])
 
 -- 2 TooMany: a limit is passed: 4,096 symbols, 4,096 statements, h 64, d 512, n 1,024, proof text 65,536 bytes (the whole file: see

@@ -21,11 +21,17 @@ unfolding floatsBelow below
 floats-told f stmts limit v e g h k = cc
 
 -- the rows on numbers and answers that are equal
-pub record-moved : (len head : ℕ) {next next′ length length′ kind kind′ class class′ from from′ size size′ n n′ : ℕ} {r : Bool}
-    → r ≡ oneOf (below len head ∷ below len next ∷ below length 2 ∷ unknownKind kind ∷ both (equal kind 1) (below 1 class) ∷ below next from ∷ badRest kind size ∷ noSymbols kind n ∷ [])
-    → next ≡ next′ → length ≡ length′ → kind ≡ kind′ → class ≡ class′ → from ≡ from′ → size ≡ size′ → n ≡ n′
-    → r ≡ oneOf (below len head ∷ below len next′ ∷ below length′ 2 ∷ unknownKind kind′ ∷ both (equal kind′ 1) (below 1 class′) ∷ below next′ from′ ∷ badRest kind′ size′ ∷ noSymbols kind′ n′ ∷ [])
-record-moved len head e next length kind class from size n = cc
+pub layout-moved : {next next′ from from′ kind kind′ n n′ size size′ : ℕ} {r : Bool}
+    → r ≡ oneOf (below next from ∷ noSymbols kind n ∷ badRest kind size ∷ [])
+    → next ≡ next′ → from ≡ from′ → kind ≡ kind′ → n ≡ n′ → size ≡ size′
+    → r ≡ oneOf (below next′ from′ ∷ noSymbols kind′ n′ ∷ badRest kind′ size′ ∷ [])
+layout-moved e next from kind n size = cc
+
+pub record-moved : (len : ℕ) {next next′ length length′ kind kind′ class class′ : ℕ} {l l′ r : Bool}
+    → r ≡ oneOf (below len next ∷ below length 2 ∷ unknownKind kind ∷ both (equal kind 1) (below 1 class) ∷ l ∷ [])
+    → next ≡ next′ → length ≡ length′ → kind ≡ kind′ → class ≡ class′ → l ≡ l′
+    → r ≡ oneOf (below len next′ ∷ below length′ 2 ∷ unknownKind kind′ ∷ both (equal kind′ 1) (below 1 class′) ∷ l′ ∷ [])
+record-moved len e next length kind class l = cc
 
 pub limit-moved : (symbols statements : ℕ) {kind kind′ h h′ d d′ n n′ size size′ : ℕ} {r : Bool}
     → r ≡ oneOf (both (equal kind 1) (atMost 4096 symbols) ∷ both (isStatement kind) (atMost 4096 statements) ∷ below 64 h ∷ below 512 d ∷ below 1024 n ∷ both (equal kind 6) (below 65536 size) ∷ [])

@@ -42,28 +42,31 @@ fn no_symbols(kind: usize, n: usize) -> bool
     both(lists_symbols(kind), n == 0)
 }
 
+// Whether a body is not of its layout, on the record's numbers.
+fn layout_row(next: usize, from: usize, kind: usize, n: usize, size: usize) -> bool
+    ensures { λ r. ⌜ r ≡ oneOf (below next from ∷ noSymbols kind n ∷ badRest kind size ∷ []) ⌝ }
+{
+    either(
+        next < from,
+        either(no_symbols(kind, n), either(bad_rest(kind, size), false)),
+    )
+}
+
 // Row 1 on the record's numbers.
 fn record_row(
     len: usize,
-    head: usize,
     next: usize,
     length: usize,
     kind: usize,
     class: usize,
-    from: usize,
-    size: usize,
-    n: usize,
+    layout: bool,
 ) -> bool
-    ensures { λ r. ⌜ r ≡ oneOf (below len head ∷ below len next ∷ below length 2 ∷ unknownKind kind ∷ words.both (equal kind 1) (below 1 class) ∷ below next from ∷ badRest kind size ∷ noSymbols kind n ∷ []) ⌝ }
+    ensures { λ r. ⌜ r ≡ oneOf (below len next ∷ below length 2 ∷ unknownKind kind ∷ words.both (equal kind 1) (below 1 class) ∷ layout ∷ []) ⌝ }
 {
-    let layout = either(bad_rest(kind, size), either(no_symbols(kind, n), false));
-    let body = either(both(kind == 1, 1 < class), either(next < from, layout));
+    let body = either(both(kind == 1, 1 < class), either(layout, false));
     either(
-        len < head,
-        either(
-            len < next,
-            either(length < 2, either(unknown_kind(kind), body)),
-        ),
+        len < next,
+        either(length < 2, either(unknown_kind(kind), body)),
     )
 }
 
@@ -71,7 +74,6 @@ fn record_row(
 pub fn bad_record(file: &[u8], at: u32) -> bool
     ensures { λ r. ⌜ r ≡ badRecord (now (file .entry)) at ⌝ }
 {
-    let head = at as usize + 4;
     let next = next_at(file, at);
     let length = length_at(file, at);
     let kind = kind_at(file, at);
@@ -79,7 +81,8 @@ pub fn bad_record(file: &[u8], at: u32) -> bool
     let from = rest_from(file, at);
     let size = rest_size(file, at);
     let n = listed_count(file, at);
-    record_row(file.len(), head, next, length, kind, class, from, size, n)
+    let layout = layout_row(next, from, kind, n, size);
+    record_row(file.len(), next, length, kind, class, layout)
 }
 
 // Row 2 on the record's numbers.
