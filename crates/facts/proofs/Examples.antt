@@ -6,7 +6,7 @@ use mathlib.Core.List.{List, [], _∷_, _++_, map}
 use lib.ListN.{replicate}
 use Rattle.frames.specs.Logic.{below, atMost, equal, pick, either, both, no, oneOf, all, any, risingFrom, same, rows}
 use Rattle.frames.specs.Layout.{byte, u16, u32, lengthAt, kindAt, nextAt, fixedSize, asserts, supposes, listsSymbols, isStatement, classAt, scopeEndAt, hypCount, pairCount, listedCount, listsFrom, pairsFrom, listedFrom, restFrom, restSize, restAt, hypsAt, pairAt, pairsAt, symbolCount, symbolsFrom, symbolsAt, typecodeAt, variableAt}
-use Rattle.frames.specs.Table.{unknownKind, badRest, noSymbols, cutShort, offLayout, badRecord, tooMany, nameByte, labelByte, named, used, badSymbol, badLabel, classOf, constant, variable, within, active, defined, variables, badNumbers, badReference, floats, floatsBelow, given, symbolGiven, allGiven, hypFramed, equalMembers, badAssertion, badFrame, noProof}
+use Rattle.frames.specs.Table.{unknownKind, badRest, noSymbols, cutShort, offLayout, badRecord, tooMany, nameByte, labelByte, named, used, badSymbol, badLabel, classOf, constant, variable, within, active, defined, variables, badNumbers, badReference, floatOf, floatBelow, hasFloat, symbolGiven, allGiven, lacksFloat, secondFloat, equalMembers, badAssertion, badFrame, noProof}
 use Rattle.frames.specs.Verdict.{nothing, unless, faultAt, after, refusal, endVerdict, atEnd, decided, walk, outcome, verdict}
 use Rattle.frames.specs.declared.Refusal.the-variants.{BadRecord, TooMany, BadSymbol, BadLabel, BadReference, BadFrame, NoProof}
 use Rattle.frames.specs.declared.Verdict.{Verdict}
@@ -143,5 +143,5 @@ verdicts =
     ∷ []
 
 pub examples : map verdict files ≡ verdicts
-unfolding below atMost equal pick either both no oneOf all any risingFrom same rows byte u16 u32 lengthAt kindAt nextAt fixedSize asserts supposes listsSymbols isStatement classAt scopeEndAt hypCount pairCount listedCount listsFrom pairsFrom listedFrom restFrom restSize restAt hypsAt pairAt pairsAt symbolCount symbolsFrom symbolsAt typecodeAt variableAt unknownKind badRest noSymbols cutShort offLayout badRecord tooMany nameByte labelByte named used badSymbol badLabel classOf constant variable within active defined variables badNumbers badReference floats floatsBelow given symbolGiven allGiven hypFramed equalMembers badAssertion badFrame noProof nothing unless faultAt after refusal endVerdict atEnd decided walk outcome verdict
+unfolding below atMost equal pick either both no oneOf all any risingFrom same rows byte u16 u32 lengthAt kindAt nextAt fixedSize asserts supposes listsSymbols isStatement classAt scopeEndAt hypCount pairCount listedCount listsFrom pairsFrom listedFrom restFrom restSize restAt hypsAt pairAt pairsAt symbolCount symbolsFrom symbolsAt typecodeAt variableAt unknownKind badRest noSymbols cutShort offLayout badRecord tooMany nameByte labelByte named used badSymbol badLabel classOf constant variable within active defined variables badNumbers badReference floatOf floatBelow hasFloat symbolGiven allGiven lacksFloat secondFloat equalMembers badAssertion badFrame noProof nothing unless faultAt after refusal endVerdict atEnd decided walk outcome verdict
 examples = refl

@@ -1,22 +1,21 @@
 -- The facts about the statements of a good file's database. Each follows from the row that judged the statement's record, with
 -- the symbols and the statements that were before it (`History`), by what the row's test means (`Meaning`). That no two listed
--- $f have one variable: of two such, the later one would be given by the earlier, and row 6 forbids that.
+-- $f have one variable: of two such, the later one would have the earlier before it, and row 6 forbids that.
 use Prim.Native.Nat.{ℕ, _≤_, _<_}
-use mathlib.Core.Path.{_≡_, refl, sym, _∙_}
+use mathlib.Core.Path.{_≡_, refl, sym}
 use mathlib.Core.Bool.{true, false}
 use mathlib.Core.Logic.{_⊎_, inl, inr}
 use mathlib.Core.List.{List}
 use native.Mathlib.Omega.{arith}
 use lib.ListN.{length, take, drop, getD, length-take}
 use lib.Seq.{getD-take, length-take-le}
-use Rattle.frames.specs.Logic.{equal}
 use Rattle.frames.specs.Layout.{kindAt, nextAt, asserts, restFrom, restSize, restAt, hypsAt, symbolsAt, typecodeAt, variableAt}
-use Rattle.frames.specs.Table.{labelByte, variables, active, floats, floatsBelow, given, hypFramed, equalMembers}
+use Rattle.frames.specs.Table.{labelByte, variables, active, floatOf, floatBelow, hasFloat, lacksFloat, secondFloat, equalMembers}
 use Rattle.frames.specs.Verdict.{Index}
 use Rattle.frames.specs.Database.{statementAt, decode}
 use Rattle.frames.specs.Facts.{_∈_, statementOf, typecode, floated, Variable, Active, Floats, Given, StatementFacts}
-use Rattle.frames.proofs.Chains.{pick-first, pick-second, below-yes, equal-no, equal-true, equal-false, both-second}
-use Rattle.frames.proofs.Tells.{true-not-false, both-true, no-true, all-member, any-member}
+use Rattle.frames.proofs.Chains.{below-yes, equal-yes, equal-true, equal-false, both-second}
+use Rattle.frames.proofs.Tells.{true-not-false, both-true, both-false, no-false, all-member, any-member}
 use Rattle.frames.proofs.Fine.{WellFormed, WithinLimits, record-well-formed, limits-kept}
 use Rattle.facts.proofs.Rows.{Refers, Framed, label-fresh, reference-good, frame-good}
 use Rattle.facts.proofs.History.{StatementJudged, ProofRead, History, judged-known}
@@ -76,33 +75,36 @@ module _ (f : List ℕ) (ix : Index) (o : ℕ) (past : History f (ix .symbols) (
         (judged-known f (ix .symbols) (ix .statements) p v judged m) var
 
     -- what row 6 says of a listed hypothesis
-    hyp-framed : (g : ℕ) → g ∈ hypsAt f (offset ix p)
-        → hypFramed f (take (judged .count) (ix .symbols)) (take p (ix .statements)) (hypsAt f (offset ix p)) g ≡ true
-    hyp-framed g m = all-member _ _ (framed (Shapes.hyp-asserts f _ g m) .hyps) m
+    not-lacking : (g : ℕ) → g ∈ hypsAt f (offset ix p)
+        → lacksFloat f (take (judged .count) (ix .symbols)) (take p (ix .statements)) (hypsAt f (offset ix p)) g ≡ false
+    not-lacking g m = any-member _ _ (framed (Shapes.hyp-asserts f _ g m) .essentials) m
+
+    not-second : (g : ℕ) → g ∈ hypsAt f (offset ix p)
+        → secondFloat f (take p (ix .statements)) (hypsAt f (offset ix p)) g ≡ false
+    not-second g m = any-member _ _ (framed (Shapes.hyp-asserts f _ g m) .floats) m
 
     pub essential-bound : (e : ℕ) → e ∈ hypsAt f (offset ix p) → statementOf (decode f ix) e .kind ≡ 3 → (v : ℕ)
         → v ∈ statementOf (decode f ix) e .symbols → Variable (decode f ix) v
         → Given (decode f ix) (hypsAt f (offset ix p)) e v
-    unfolding hypFramed statementAt
+    unfolding lacksFloat statementAt
     essential-bound e m k v n var =
         let l = listed-active e m .earlier in
         let read = statement-read f ix e (omega arith) in
         let front = getD-take p (ix .statements) e 0 l in
         let k : kindAt f (offset ix e) ≡ 3 = rw read at k in
         let n : v ∈ symbolsAt f (offset ix e) = rw read at n in
-        let two : equal (kindAt f (offset ix e)) 2 ≡ false = equal-no (λ t. omega arith) in
         all-given-is f ix p (omega arith) (judged .count) _ e _ v (judged .within) (omega arith)
-        (pick-second _ two refl ∙ (rw front at (hyp-framed e m))) n (judged .known e v l n) var
+        (no-false _ (both-false _ _ (rw front at (not-lacking e m)) (equal-yes k))) n (judged .known e v l n) var
 
     -- of two listed $f of one variable neither is the later
     float-first : (g g′ v : ℕ) → g ∈ hypsAt f (offset ix p) → g′ ∈ hypsAt f (offset ix p)
         → Floats (decode f ix) v g → Floats (decode f ix) v g′ → g′ < g → ⊥
-    unfolding hypFramed given floatsBelow floats
+    unfolding secondFloat hasFloat floatBelow floatOf
     float-first g g′ v m m′ a b l =
         let mine = both-true _ _ (is-floats f ix p (omega arith) v g (listed-active g m .earlier) a) in
         let other = is-floats f ix p (omega arith) v g′ (listed-active g′ m′ .earlier) b in
         let e : variableAt f (getD (take p (ix .statements)) g 0) ≡ v = equal-true _ _ (mine .1) in
-        let free = no-true _ (pick-first _ (mine .0) refl ∙ hyp-framed g m) in
+        let free = both-false _ _ (not-second g m) (mine .0) in
         true-not-false (sym (both-second (below-yes l) (rw e (sym other)))) (any-member _ _ free m′)
 
     pub one-listed : (g g′ v : ℕ) → g ∈ hypsAt f (offset ix p) → g′ ∈ hypsAt f (offset ix p)

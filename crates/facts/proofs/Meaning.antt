@@ -11,7 +11,7 @@ use lib.ListN.{length, take, getD, length-take}
 use lib.Seq.{getD-take}
 use Rattle.frames.specs.Logic.{below}
 use Rattle.frames.specs.Layout.{classAt, variableAt}
-use Rattle.frames.specs.Table.{classOf, constant, variable, within, active, floats, floatsBelow, given, symbolGiven, allGiven}
+use Rattle.frames.specs.Table.{classOf, constant, variable, within, active, floatOf, floatBelow, hasFloat, symbolGiven, allGiven}
 use Rattle.frames.specs.Verdict.{Index}
 use Rattle.frames.specs.Database.{symbolAt, statementAt, decode}
 use Rattle.frames.specs.Facts.{_∈_, statementOf, floated, Constant, Variable, Active, Floats, Given}
@@ -73,21 +73,21 @@ module _ (f : List ℕ) (ix : Index) where
           scope = rw (read h l) (rw (end-read f (getD (ix .statements) h 0) (g .0)) (either-cases _ _ (λ t. inl (equal-true _ _ t)) (λ t. inr (below-true _ _ t)) (g .1)));
         }
 
-    pub floats-is : (v h : ℕ) → h < p → floats f (take p (ix .statements)) v h ≡ true → Floats (decode f ix) v h
-    unfolding floats floated variableAt statementAt
+    pub floats-is : (v h : ℕ) → h < p → floatOf f (take p (ix .statements)) v h ≡ true → Floats (decode f ix) v h
+    unfolding floatOf floated variableAt statementAt
     floats-is v h l e =
         let b = both-true _ _ (rw (front h l) at e) in
         record { kind = rw (read h l) (equal-true _ _ (b .0)); variable = rw (read h l) (equal-true _ _ (b .1)) }
 
-    pub is-floats : (v h : ℕ) → h < p → Floats (decode f ix) v h → floats f (take p (ix .statements)) v h ≡ true
-    unfolding floats floated variableAt statementAt
+    pub is-floats : (v h : ℕ) → h < p → Floats (decode f ix) v h → floatOf f (take p (ix .statements)) v h ≡ true
+    unfolding floatOf floated variableAt statementAt
     is-floats v h l e =
         rw (front h l)
         (sym (both-second (equal-yes (rw (read h l) at (e .kind))) (sym (equal-yes (rw (read h l) at (e .variable))))))
 
-    pub given-is : (hyps : List ℕ) (limit v : ℕ) → limit ≤ p → given f (take p (ix .statements)) hyps limit v ≡ true
+    pub given-is : (hyps : List ℕ) (limit v : ℕ) → limit ≤ p → hasFloat f (take p (ix .statements)) hyps limit v ≡ true
         → Given (decode f ix) hyps limit v
-    unfolding given floatsBelow
+    unfolding hasFloat floatBelow
     given-is hyps limit v l e =
         let w = any-witness _ hyps e in
         let b = both-true _ _ (w .2) in

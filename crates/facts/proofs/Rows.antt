@@ -7,7 +7,7 @@ use mathlib.Core.List.{List}
 use lib.ListN.{length}
 use Rattle.frames.specs.Logic.{equal, pick, either, both, no, all, any, risingFrom}
 use Rattle.frames.specs.Layout.{kindAt, asserts, isStatement, restAt, hypsAt, pairsAt, symbolsAt, typecodeAt, variableAt}
-use Rattle.frames.specs.Table.{nameByte, labelByte, used, badSymbol, badLabel, constant, variable, active, defined, variables, badNumbers, badReference, allGiven, hypFramed, equalMembers, badAssertion, badFrame, noProof}
+use Rattle.frames.specs.Table.{nameByte, labelByte, used, badSymbol, badLabel, constant, variable, active, defined, variables, badNumbers, badReference, allGiven, lacksFloat, secondFloat, equalMembers, badAssertion, badFrame, noProof}
 use Rattle.frames.proofs.Chains.{equal-yes, equal-true}
 use Rattle.frames.proofs.Tells.{oneOf-false, both-false, either-false, no-false}
 
@@ -62,7 +62,8 @@ reference-good f syms stmts o e k =
 -- row 6, test by test
 pub record Framed (f syms stmts : List ℕ) (o : ℕ) : Type 0 where
   pub claim : allGiven f syms stmts (hypsAt f o) (length stmts) (symbolsAt f o) ≡ true
-  pub hyps : all (hypFramed f syms stmts (hypsAt f o)) (hypsAt f o) ≡ true
+  pub essentials : any (lacksFloat f syms stmts (hypsAt f o)) (hypsAt f o) ≡ false
+  pub floats : any (secondFloat f stmts (hypsAt f o)) (hypsAt f o) ≡ false
   pub pairs : any equalMembers (pairsAt f o) ≡ false
 
 pub frame-good : (f syms stmts : List ℕ) (o : ℕ) → badFrame f syms stmts o ≡ false → asserts (kindAt f o) ≡ true
@@ -70,9 +71,10 @@ pub frame-good : (f syms stmts : List ℕ) (o : ℕ) → badFrame f syms stmts o
 unfolding badFrame badAssertion
 frame-good f syms stmts o e k =
     let t1 = oneOf-false (no (allGiven f syms stmts (hypsAt f o) (length stmts) (symbolsAt f o))) _ (both-false _ _ e k) in
-    let t2 = oneOf-false (no (all (hypFramed f syms stmts (hypsAt f o)) (hypsAt f o))) _ (t1 .1) in
-    let t3 = oneOf-false (any equalMembers (pairsAt f o)) _ (t2 .1) in
-    record { claim = no-false _ (t1 .0); hyps = no-false _ (t2 .0); pairs = t3 .0 }
+    let t2 = oneOf-false (any (lacksFloat f syms stmts (hypsAt f o)) (hypsAt f o)) _ (t1 .1) in
+    let t3 = oneOf-false (any (secondFloat f stmts (hypsAt f o)) (hypsAt f o)) _ (t2 .1) in
+    let t4 = oneOf-false (any equalMembers (pairsAt f o)) _ (t3 .1) in
+    record { claim = no-false _ (t1 .0); essentials = t2 .0; floats = t3 .0; pairs = t4 .0 }
 
 -- row 7: where a proof is owed, the record is one
 pub proof-good : (f : List ℕ) (owed : Bool) (o : ℕ) → noProof f owed o ≡ false → owed ≡ true → kindAt f o ≡ 6

@@ -137,42 +137,47 @@ unfoldable pub badReference : List ℕ → List ℕ → List ℕ → ℕ → Boo
 badReference f syms stmts o = both (isStatement (kindAt f o)) (badNumbers f syms stmts o)
 
 -- statement h is a $f of variable v
-unfoldable pub floats : List ℕ → List ℕ → ℕ → ℕ → Bool
-floats f stmts v h = both (equal (kindAt f (getD stmts h 0)) 2) (equal (variableAt f (getD stmts h 0)) v)
+unfoldable pub floatOf : List ℕ → List ℕ → ℕ → ℕ → Bool
+floatOf f stmts v h = both (equal (kindAt f (getD stmts h 0)) 2) (equal (variableAt f (getD stmts h 0)) v)
 
 -- statement h is a $f of variable v, and its number is below `limit`
-unfoldable pub floatsBelow : List ℕ → List ℕ → ℕ → ℕ → ℕ → Bool
-floatsBelow f stmts limit v h = both (below h limit) (floats f stmts v h)
+unfoldable pub floatBelow : List ℕ → List ℕ → ℕ → ℕ → ℕ → Bool
+floatBelow f stmts limit v h = both (below h limit) (floatOf f stmts v h)
 
--- among the listed hypotheses there is a $f of variable v whose statement number is below `limit`
-unfoldable pub given : List ℕ → List ℕ → List ℕ → ℕ → ℕ → Bool
-given f stmts hyps limit v = any (floatsBelow f stmts limit v) hyps
+-- variable v has a listed $f whose statement number is below `limit`
+unfoldable pub hasFloat : List ℕ → List ℕ → List ℕ → ℕ → ℕ → Bool
+hasFloat f stmts hyps limit v = any (floatBelow f stmts limit v) hyps
 
 -- the symbol, if it is a variable, has a listed $f below `limit`
 unfoldable pub symbolGiven : List ℕ → List ℕ → List ℕ → List ℕ → ℕ → ℕ → Bool
-symbolGiven f syms stmts hyps limit s = either (no (variable f syms s)) (given f stmts hyps limit s)
+symbolGiven f syms stmts hyps limit s = either (no (variable f syms s)) (hasFloat f stmts hyps limit s)
 
 -- every variable among these symbols has a listed $f below `limit`
 unfoldable pub allGiven : List ℕ → List ℕ → List ℕ → List ℕ → ℕ → List ℕ → Bool
 allGiven f syms stmts hyps limit xs = all (symbolGiven f syms stmts hyps limit) xs
 
--- a listed $f is the first one of its variable; each variable of a listed $e has a listed $f before that $e
-unfoldable pub hypFramed : List ℕ → List ℕ → List ℕ → List ℕ → ℕ → Bool
-hypFramed f syms stmts hyps h =
-    pick (equal (kindAt f (getD stmts h 0)) 2)
-    (no (given f stmts hyps h (variableAt f (getD stmts h 0))))
-    (allGiven f syms stmts hyps h (symbolsAt f (getD stmts h 0)))
+-- statement h is a $e with a variable that has no listed $f, or has it after that $e
+unfoldable pub lacksFloat : List ℕ → List ℕ → List ℕ → List ℕ → ℕ → Bool
+lacksFloat f syms stmts hyps h =
+    both (equal (kindAt f (getD stmts h 0)) 3) (no (allGiven f syms stmts hyps h (symbolsAt f (getD stmts h 0))))
+
+-- statement h is a $f whose variable has a listed $f before it
+unfoldable pub secondFloat : List ℕ → List ℕ → List ℕ → ℕ → Bool
+secondFloat f stmts hyps h =
+    both (equal (kindAt f (getD stmts h 0)) 2) (hasFloat f stmts hyps h (variableAt f (getD stmts h 0)))
 
 -- the two members of the pair are equal
 unfoldable pub equalMembers : ℕ × ℕ → Bool
 equalMembers p = equal (p .0) (p .1)
 
--- row 6 of a $a or $p: its claim, its listed hypotheses, its pairs
+-- row 6 of a $a or $p: a variable of the claim has no listed $f; a variable of a listed $e has none, or has it after that $e; two
+-- listed $f for one variable; a pair of equal members
 unfoldable pub badAssertion : List ℕ → List ℕ → List ℕ → ℕ → Bool
 badAssertion f syms stmts o =
     oneOf
     (no (allGiven f syms stmts (hypsAt f o) (length stmts) (symbolsAt f o))
-    ∷ no (all (hypFramed f syms stmts (hypsAt f o)) (hypsAt f o))
+    ∷ any (lacksFloat f syms stmts (hypsAt f o)) (hypsAt f o)
+    ∷ any (secondFloat f stmts (hypsAt f o)) (hypsAt f o)
     ∷ any equalMembers (pairsAt f o)
     ∷ [])
 

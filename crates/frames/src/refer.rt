@@ -3,7 +3,7 @@ ghost use mathlib.Core.Path.{_≡_};
 ghost use Prim.Native.Nat.{_<_};
 ghost use lib.ListN.{getD};
 ghost use Rattle.frames.specs.Layout.{symbolsAt, hypsAt, pairsAt, typecodeAt, variableAt};
-ghost use Rattle.frames.specs.Table.{classOf, constant, variable, within, active, floats};
+ghost use Rattle.frames.specs.Table.{classOf, constant, variable, within, active, floatOf};
 use crate::numbers::StatementNo;
 use crate::numbers::SymbolNo;
 use crate::read::u16_at;
@@ -132,7 +132,7 @@ pub fn is_active(file: &[u8], statements: &[u32], p: StatementNo, s: StatementNo
 
 // Statement h is a $f of variable v.
 pub fn is_float_of(file: &[u8], statements: &[u32], v: SymbolNo, h: StatementNo) -> bool
-    ensures { λ r. ⌜ r ≡ floats (now (file .entry)) (now (statements .entry)) (v .0) (h .0) ⌝ }
+    ensures { λ r. ⌜ r ≡ floatOf (now (file .entry)) (now (statements .entry)) (v .0) (h .0) ⌝ }
 {
     let of = v.0;
     let at = entry(statements, h.0);

@@ -7,7 +7,7 @@ use lib.Dec.{ltb}
 use Rattle.frames.proofs.Chains.{moved}
 use Rattle.frames.specs.Logic.{below, atMost, equal, both, no, oneOf, rows}
 use Rattle.frames.specs.Layout.{isStatement}
-use Rattle.frames.specs.Table.{unknownKind, badRest, noSymbols, floats, floatsBelow}
+use Rattle.frames.specs.Table.{unknownKind, badRest, noSymbols, floatOf, floatBelow}
 
 -- a list read by its count and its start
 pub rows-moved : {A B : Type 0} (q : List A → B) (read : ℕ → A) (step : ℕ) {n n′ from from′ : ℕ} {r : B}
@@ -15,10 +15,10 @@ pub rows-moved : {A B : Type 0} (q : List A → B) (read : ℕ → A) (step : �
 rows-moved q read step {n} {n′} {from} {from′} e g h = moved (λ k. q (rows read step n′ k)) (moved (λ k. q (rows read step k from)) e g) h
 
 -- whether a listed hypothesis is a $f below the limit
-pub floats-told : (f stmts : List ℕ) (limit v : ℕ) {s x : ℕ} {t r b : Bool} → r ≡ both (ltb s limit) t → t ≡ floats f stmts v s
-    → s ≡ x → r ≡ b → floatsBelow f stmts limit v x ≡ b
-unfolding floatsBelow below
-floats-told f stmts limit v e g h k = cc
+pub float-told : (f stmts : List ℕ) (limit v : ℕ) {s x : ℕ} {t r b : Bool} → r ≡ both (ltb s limit) t → t ≡ floatOf f stmts v s
+    → s ≡ x → r ≡ b → floatBelow f stmts limit v x ≡ b
+unfolding floatBelow below
+float-told f stmts limit v e g h k = cc
 
 -- the rows on numbers and answers that are equal
 pub layout-moved : {next next′ from from′ kind kind′ n n′ size size′ : ℕ} {r : Bool}
@@ -39,6 +39,6 @@ pub limit-moved : (symbols statements : ℕ) {kind kind′ h h′ d d′ n n′ 
     → r ≡ oneOf (both (equal kind′ 1) (atMost 4096 symbols) ∷ both (isStatement kind′) (atMost 4096 statements) ∷ below 64 h′ ∷ below 512 d′ ∷ below 1024 n′ ∷ both (equal kind′ 6) (below 65536 size′) ∷ [])
 limit-moved symbols statements e kind h d n size = cc
 
-pub frame-moved : {g g′ a a′ e e′ r : Bool} → r ≡ oneOf (no g ∷ no a ∷ e ∷ []) → g ≡ g′ → a ≡ a′ → e ≡ e′
-    → r ≡ oneOf (no g′ ∷ no a′ ∷ e′ ∷ [])
-frame-moved h g a e = cc
+pub frame-moved : {g g′ l l′ s s′ e e′ r : Bool} → r ≡ oneOf (no g ∷ l ∷ s ∷ e ∷ []) → g ≡ g′ → l ≡ l′ → s ≡ s′ → e ≡ e′
+    → r ≡ oneOf (no g′ ∷ l′ ∷ s′ ∷ e′ ∷ [])
+frame-moved h g l s e = cc

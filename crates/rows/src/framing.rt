@@ -3,9 +3,9 @@ ghost use mathlib.Core.Path.{_≡_};
 ghost use mathlib.Core.List.{_∷_, []};
 ghost use Prim.Native.Nat.{_<_, _^_};
 ghost use Rattle.frames.specs.Logic as words;
-ghost use Rattle.frames.specs.Logic.{below, equal, oneOf, all, any, rows};
+ghost use Rattle.frames.specs.Logic.{oneOf, any, rows};
 ghost use Rattle.frames.specs.Layout.{u32, pairAt, symbolsAt};
-ghost use Rattle.frames.specs.Table.{variables, given, symbolGiven, allGiven, hypFramed, equalMembers, badAssertion, badFrame};
+ghost use Rattle.frames.specs.Table.{hasFloat, symbolGiven, allGiven, lacksFloat, secondFloat, equalMembers, badAssertion, badFrame};
 use frames::logic::both;
 use frames::logic::either;
 use frames::logic::no;
@@ -27,7 +27,7 @@ use frames::refer::is_float_of;
 use frames::refer::is_variable;
 
 // One of the h listed hypotheses from `from` on is a $f of variable v with a number below `limit`.
-fn is_given(
+fn has_float(
     file: &[u8],
     statements: &[u32],
     from: usize,
@@ -36,7 +36,7 @@ fn is_given(
     v: SymbolNo,
 ) -> bool
     requires { ⌜ (from < 2 ^ 40) × (h < 65536) ⌝ }
-    ensures { λ r. ⌜ r ≡ given (now (file .entry)) (now (statements .entry)) (rows (u32 (now (file .entry))) 4 h from) limit (v .0) ⌝ }
+    ensures { λ r. ⌜ r ≡ hasFloat (now (file .entry)) (now (statements .entry)) (rows (u32 (now (file .entry))) 4 h from) limit (v .0) ⌝ }
 {
     let mut i = 0;
     while i < h {
@@ -63,7 +63,7 @@ fn is_symbol_given(
     ensures { λ r. ⌜ r ≡ symbolGiven (now (file .entry)) (now (symbols .entry)) (now (statements .entry)) (rows (u32 (now (file .entry))) 4 h from) limit (s .0) ⌝ }
 {
     if is_variable(file, symbols, s) {
-        return is_given(file, statements, from, h, limit, s);
+        return has_float(file, statements, from, h, limit, s);
     }
     true
 }
@@ -95,8 +95,8 @@ fn are_given(
     true
 }
 
-// The listed hypothesis s is the first $f of its variable, or a $e whose variables have a listed $f before it.
-fn is_framed(
+// Statement s is a $e with a variable that has no listed $f, or has it after that $e.
+fn lacks_float(
     file: &[u8],
     symbols: &[u32],
     statements: &[u32],
@@ -105,30 +105,57 @@ fn is_framed(
     s: usize,
 ) -> bool
     requires { ⌜ (from < 2 ^ 40) × (h < 65536) ⌝ }
-    ensures { λ r. ⌜ r ≡ hypFramed (now (file .entry)) (now (symbols .entry)) (now (statements .entry)) (rows (u32 (now (file .entry))) 4 h from) s ⌝ }
+    ensures { λ r. ⌜ r ≡ lacksFloat (now (file .entry)) (now (symbols .entry)) (now (statements .entry)) (rows (u32 (now (file .entry))) 4 h from) s ⌝ }
 {
     let at = entry(statements, s);
-    if kind_at(file, at) == 2 {
-        return no(is_given(file, statements, from, h, s, float_variable(file, at)));
+    if kind_at(file, at) == 3 {
+        return no(are_given(file, symbols, statements, from, h, s, at));
     }
-    are_given(file, symbols, statements, from, h, s, at)
+    false
 }
 
-// So it is with each of the h listed hypotheses from `from` on.
-fn all_framed(file: &[u8], symbols: &[u32], statements: &[u32], from: usize, h: usize) -> bool
+// One of the h listed hypotheses from `from` on is such a $e.
+fn one_lacks_float(file: &[u8], symbols: &[u32], statements: &[u32], from: usize, h: usize) -> bool
     requires { ⌜ (from < 2 ^ 40) × (h < 65536) ⌝ }
-    ensures { λ r. ⌜ r ≡ all (hypFramed (now (file .entry)) (now (symbols .entry)) (now (statements .entry)) (rows (u32 (now (file .entry))) 4 h from)) (rows (u32 (now (file .entry))) 4 h from) ⌝ }
+    ensures { λ r. ⌜ r ≡ any (lacksFloat (now (file .entry)) (now (symbols .entry)) (now (statements .entry)) (rows (u32 (now (file .entry))) 4 h from)) (rows (u32 (now (file .entry))) 4 h from) ⌝ }
 {
     let mut i = 0;
     while i < h {
         let s = u32_at(file, from + 4 * i);
-        if is_framed(file, symbols, statements, from, h, s) {
-            i += 1;
-        } else {
-            return false;
+        if lacks_float(file, symbols, statements, from, h, s) {
+            return true;
         }
+        i += 1;
     }
-    true
+    false
+}
+
+// Statement s is a $f whose variable has a listed $f before it.
+fn is_second_float(file: &[u8], statements: &[u32], from: usize, h: usize, s: usize) -> bool
+    requires { ⌜ (from < 2 ^ 40) × (h < 65536) ⌝ }
+    ensures { λ r. ⌜ r ≡ secondFloat (now (file .entry)) (now (statements .entry)) (rows (u32 (now (file .entry))) 4 h from) s ⌝ }
+{
+    let at = entry(statements, s);
+    if kind_at(file, at) == 2 {
+        return has_float(file, statements, from, h, s, float_variable(file, at));
+    }
+    false
+}
+
+// One of the h listed hypotheses from `from` on is such a $f.
+fn has_second_float(file: &[u8], statements: &[u32], from: usize, h: usize) -> bool
+    requires { ⌜ (from < 2 ^ 40) × (h < 65536) ⌝ }
+    ensures { λ r. ⌜ r ≡ any (secondFloat (now (file .entry)) (now (statements .entry)) (rows (u32 (now (file .entry))) 4 h from)) (rows (u32 (now (file .entry))) 4 h from) ⌝ }
+{
+    let mut i = 0;
+    while i < h {
+        let s = u32_at(file, from + 4 * i);
+        if is_second_float(file, statements, from, h, s) {
+            return true;
+        }
+        i += 1;
+    }
+    false
 }
 
 // One of the d pairs from `from` on has equal members.
@@ -148,10 +175,13 @@ fn has_equal_pair(file: &[u8], from: usize, d: usize) -> bool
 }
 
 // Row 6 on the answers to its questions.
-fn frame_row(given: bool, framed: bool, equal: bool) -> bool
-    ensures { λ r. ⌜ r ≡ oneOf (words.no given ∷ words.no framed ∷ equal ∷ []) ⌝ }
+fn frame_row(given: bool, lacks: bool, second: bool, equal: bool) -> bool
+    ensures { λ r. ⌜ r ≡ oneOf (words.no given ∷ lacks ∷ second ∷ equal ∷ []) ⌝ }
 {
-    either(no(given), either(no(framed), either(equal, false)))
+    either(
+        no(given),
+        either(lacks, either(second, either(equal, false))),
+    )
 }
 
 // Row 6 for a $a or $p.
@@ -163,9 +193,10 @@ fn bad_assertion(file: &[u8], symbols: &[u32], statements: &[u32], at: u32) -> b
     let pairs = pairs_from(file, at);
     let d = pair_count(file, at);
     let given = are_given(file, symbols, statements, from, h, statements.len(), at);
-    let framed = all_framed(file, symbols, statements, from, h);
+    let lacks = one_lacks_float(file, symbols, statements, from, h);
+    let second = has_second_float(file, statements, from, h);
     let equal = has_equal_pair(file, pairs, d);
-    frame_row(given, framed, equal)
+    frame_row(given, lacks, second, equal)
 }
 
 // 6 BadFrame.

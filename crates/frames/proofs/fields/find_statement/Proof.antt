@@ -1,7 +1,6 @@
 -- `frames::fields::find_statement` meets its contract: what the search finds, as a number of its own kind.
 use Rattle.frames.proofs.Found.{finds-at, finds-unused}
 use Rattle.frames.specs.Database.{statementAt}
-use Rattle.frames.specs.Table.{given}
 use borrow.Author.Needs.{needs}
 use mathlib.Core.Path.{sym}
 use Rattle.frames.proofs.fields.find_statement.Statement.{statement}

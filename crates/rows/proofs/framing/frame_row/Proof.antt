@@ -7,9 +7,6 @@ use Rattle.rows.proofs.framing.frame_row.Tie as tie
 no-requires : tie.Need-no-requires
 no-requires c κs = search needs
 
-no-requires-2 : tie.Need-no-requires-2
-no-requires-2 c κs = search needs
-
 either-requires : tie.Need-either-requires
 either-requires c κs = search needs
 
@@ -18,6 +15,9 @@ either-requires-2 c κs = search needs
 
 either-requires-3 : tie.Need-either-requires-3
 either-requires-3 c κs = search needs
+
+either-requires-4 : tie.Need-either-requires-4
+either-requires-4 c κs = search needs
 
 returns : tie.Need-returns
 unfolding oneOf
@@ -28,8 +28,8 @@ frame-row-spec =
     tie.close
     (tie.spec
     no-requires
-    no-requires-2
     either-requires
     either-requires-2
     either-requires-3
+    either-requires-4
     returns)

@@ -10,12 +10,12 @@ use Rattle.rows.proofs.framing.is_symbol_given.Tie as tie
 is-variable-requires : tie.Need-is-variable-requires
 is-variable-requires c κs = search needs
 
-is-given-requires : tie.Need-is-given-requires
-is-given-requires c κs = omega arith
+has-float-requires : tie.Need-has-float-requires
+has-float-requires c κs = omega arith
 
 returns : tie.Need-returns
 unfolding symbolGiven
-returns c = either-second (no-of-true (sym (c .before .before .is-variable .ensures) ∙ c .before .if1 .taken)) (c .is-given .ensures)
+returns c = either-second (no-of-true (sym (c .before .before .is-variable .ensures) ∙ c .before .if1 .taken)) (c .has-float .ensures)
 
 returns-2 : tie.Need-returns-2
 unfolding symbolGiven
@@ -23,4 +23,4 @@ returns-2 c = either-first _ (no-of-false (sym (c .before .is-variable .ensures)
 
 pub is-symbol-given-spec : {M : Type 1} → statement M
 is-symbol-given-spec =
-    tie.close (tie.spec is-variable-requires is-given-requires returns returns-2)
+    tie.close (tie.spec is-variable-requires has-float-requires returns returns-2)
