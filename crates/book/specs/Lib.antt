@@ -1,0 +1,2 @@
+-- What a derivation is.
+pub mod Book

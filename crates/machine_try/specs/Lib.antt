@@ -1,0 +1,5 @@
+-- The examples.
+pub mod Hex
+pub mod Witnesses
+pub mod Vectors
+pub mod Reading
