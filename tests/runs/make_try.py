@@ -2,7 +2,8 @@
 """Writes the examples that the definition of a run is computed on, inside the checker.
 
     make_try.py VECTORS                  the stored samples: crates/machine_try/specs and proofs
-    make_try.py VECTORS --all FOLDER N   files of N rows each in FOLDER (a copy of crates/machine_try), of 271 vectors and all hand-worked runs
+    make_try.py VECTORS --all FOLDER N   files of N rows each in FOLDER (a copy of crates/machine_try), of 270 vectors and all
+                                         hand-worked runs; a file above 2,000 bytes has a part of its own
 
 VECTORS has calls/calls.tsv with its files, and program/N.frames with N.expect. A row is a file, a statement number, the room
 lent, and the answer that document 01 gives. Also rewrites crates/machine/proofs/Rows.antt, whose `unfolding` lines name every
@@ -95,7 +96,9 @@ def vectors(folder):
 
 
 def chosen(all_rows, count, limit, whole=False):
-    """For each number, of calls and of the program: the smallest and some others, by a fixed seed; `whole`: one of every number."""
+    """For each number, of calls and of the program: the smallest and some others, by a fixed seed; `whole`: one of every
+    number, where a file is below 8,000 bytes (the only vectors with 44 are of 10,556 bytes and more, on which computing passes the
+    checker's own limit of steps)."""
     groups = collections.defaultdict(list)
     for r in all_rows:
         groups[r[5], r[8]].append(r)
@@ -105,7 +108,7 @@ def chosen(all_rows, count, limit, whole=False):
         small = [r for r in sorted(groups[key], key=lambda r: len(r[0])) if len(r[0]) < limit]
         out += small[:1] + pick.sample(small[1:], max(0, min(count - 1, len(small) - 1)))
         if not small and whole:
-            out.append(min(groups[key], key=lambda r: len(r[0])))
+            out += [r for r in groups[key] if len(r[0]) < 16000][:1]
     return out
 
 
@@ -138,7 +141,11 @@ def main():
     if len(sys.argv) > 2:
         crate, count = sys.argv[3], int(sys.argv[4])
         cases = chosen(vectors(folder), 5, 3000, True) + hand_worked()
-        lists = [(f'part{i}', f'rows {i} to {i + count - 1}', cases[i:i + count]) for i in range(0, len(cases), count)]
+        wide = [c for c in cases if 4000 < len(c[0])]
+        cases = [c for c in cases if len(c[0]) <= 4000]
+        parts = [cases[i:i + count] for i in range(0, len(cases), count)] + [[c] for c in wide]
+        cases += wide
+        lists = [(f'part{i}', f'part {i}', part) for i, part in enumerate(parts)]
         for name, comment, part in lists:
             rows(f'{crate}/specs/{name.title()}.antt', [f'-- {comment}'], [(name, comment, part)])
             facts(f'{crate}/proofs/{name.title()}.antt', 'machine_try', ['Hex', name.title()], [f'-- {comment}'], [(name, comment)])

@@ -1,16 +1,16 @@
 -- Acceptance means derivation: if the bench answers 0, the tree that the run built is a derivation, by the book's rules, of the claim from
 -- its own $e, the active $f and earlier assertions. Soundness is followed through the run; a good file has the facts that it needs.
-use Prim.Native.Nat.{ℕ, _≤_, _<_}
-use mathlib.Core.Path.{_≡_, refl, sym, ap, _∙_}
+use Prim.Native.Nat.{ℕ, _<_}
+use mathlib.Core.Path.{_≡_, refl, ap, _∙_}
 use mathlib.Core.Bool.{Bool, true, false}
-use mathlib.Core.Option.{Option, none, some}
-use mathlib.Core.List.{List, [], _∷_}
+use mathlib.Core.Option.{none}
+use mathlib.Core.List.{List, []}
 use native.Mathlib.Omega.{arith}
-use lib.ListN.{length, getD}
+use lib.ListN.{length}
 use Rattle.book.specs.Book.{Expression, Tree, Derives}
-use Rattle.frames.specs.Logic.{below, equal, pick, no, same}
+use Rattle.frames.specs.Logic.{below, equal, pick}
 use Rattle.frames.specs.Database.{Statement, Database, database}
-use Rattle.frames.specs.Facts.{_∈_, statementOf, Facts}
+use Rattle.frames.specs.Facts.{statementOf, Facts}
 use Rattle.frames.specs.Verdict.{verdict}
 use Rattle.frames.specs.declared.Verdict.{Verdict}
 use Rattle.frames.specs.declared.Verdict.the-variants.{Good, Refused}
@@ -20,12 +20,10 @@ use Rattle.frames.proofs.Found.{same-true}
 use Rattle.frames.proofs.Loops.{getD-past}
 use Rattle.facts.proofs.GoodFacts.{good-facts}
 use Rattle.facts.proofs.Unique.{good-answer}
-use Rattle.machine.specs.Chain.{Result, fine, stop, bind}
+use Rattle.machine.specs.Chain.{Result}
 use Rattle.machine.specs.Answer.{Answer, accepted, refused, turnedAway, notProvable, number}
 use Rattle.machine.specs.Ground.{ground, expressionOf}
 use Rattle.machine.specs.Memory.{Room, limited, Proved, Entry, Memory}
-use Rattle.machine.specs.Prepare.{prepareNormal, preparePlace}
-use Rattle.machine.specs.Apply.{runReady}
 use Rattle.machine.specs.Run.{Mode, beginning, normal, inRoster, inLetters, stepAt, isClaim, onlyEntry, unfinished, firstVariables, fresh, run}
 use Rattle.machine.specs.Bench.{ended, answerGood, judged, answer}
 use Rattle.machine.specs.Promise.{Proves, Derived, derived, no-proof, no-file, no-claim}

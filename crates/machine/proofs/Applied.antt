@@ -5,22 +5,22 @@ use mathlib.Core.Path.{_≡_, refl, sym, _∙_}
 use mathlib.Core.Bool.{Bool, true, false}
 use mathlib.Core.Logic.{_⊎_}
 use mathlib.Core.Option.{Option, none, some}
-use mathlib.Core.List.{List, [], _∷_, map, reverse, List·Memᴰ·head, List·Memᴰ·tail}
+use mathlib.Core.List.{List, [], _∷_, map, List·Memᴰ·head, List·Memᴰ·tail}
 use native.Mathlib.Omega.{arith}
-use lib.ListN.{length, take, drop}
-use Rattle.book.specs.Book.{Expression, Substitution, substituted, under, Derives, applied, DeriveAll, nothing, more}
-use Rattle.frames.specs.Logic.{equal, both, no, all, same}
-use Rattle.frames.specs.Database.{Statement, Database}
+use lib.ListN.{length}
+use Rattle.book.specs.Book.{Expression, Substitution, substituted, under, applied, DeriveAll, nothing, more}
+use Rattle.frames.specs.Logic.{equal, both, no, same}
+use Rattle.frames.specs.Database.{Database}
 use Rattle.frames.specs.Facts.{_∈_, statementOf, floated, Facts}
-use Rattle.frames.proofs.Chains.{no-of-true, no-of-false, equal-true}
+use Rattle.frames.proofs.Chains.{no-of-false, equal-true}
 use Rattle.frames.proofs.Tells.{both-false, no-false, all-member}
 use Rattle.frames.proofs.Found.{same-true}
-use Rattle.machine.specs.Chain.{Result, fine, stop}
-use Rattle.machine.specs.Ground.{isVariable, isFloat, expression, expressionOf, framePairs, frameOf, MayApply, ground}
-use Rattle.machine.specs.Memory.{Room, Proved, Prepared, recalls, applies, Entry, Memory}
+use Rattle.machine.specs.Chain.{Result}
+use Rattle.machine.specs.Ground.{isVariable, isFloat, expression, expressionOf, frameOf, ground}
+use Rattle.machine.specs.Memory.{Room, Proved, Prepared, Entry, Memory}
 use Rattle.machine.specs.Prepare.{Ready}
-use Rattle.machine.specs.Apply.{labelOf, checkMarks, isMarked, marked, unmarkedFirst, unmarked, seat, arranged, marks, bound, checkHyp, checkHyps, keeps, forest, conclusion, conclude, applyAssertion, assignEntries, runPrepared, runReady}
-use Rattle.machine.proofs.Gives.{Gives, gives, stops, unless-gives}
+use Rattle.machine.specs.Apply.{checkMarks, marked, unmarkedFirst, unmarked, seat, arranged, bound, checkHyp, checkHyps, forest, conclusion, conclude, applyAssertion, assignEntries, runPrepared, runReady}
+use Rattle.machine.proofs.Gives.{Gives, stops, unless-gives}
 use Rattle.machine.proofs.Every.{Every, none, also, every-take, every-drop, every-reverse}
 use Rattle.machine.proofs.Bound.{Paired, here, there, float-image, float-under, same-expression}
 use Rattle.machine.proofs.Disjoint.{keeps-means}

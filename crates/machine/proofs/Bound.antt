@@ -1,15 +1,14 @@
 -- The substitution of an assertion that is applied: each $f binds its variable to what its entry proves, since no other listed $f has
 -- that variable. So each hypothesis, under that substitution, is what its entry proves.
-use Prim.Native.Nat.{ℕ, zero, suc, _<_, _≤_}
-use mathlib.Core.Path.{_≡_, refl, sym, _∙_, ap}
+use Prim.Native.Nat.{ℕ, _<_}
+use mathlib.Core.Path.{_≡_, refl, sym, _∙_}
 use mathlib.Core.Bool.{Bool, true, false}
 use mathlib.Core.List.{List, [], _∷_, _++_, append-assoc, append-nil, List·Memᴰ·head, List·Memᴰ·tail, Memᴰ·append-right}
 use native.Mathlib.Omega.{arith}
 use lib.ListN.{length, getD, drop}
 use Rattle.book.specs.Book.{Expression, Substitution, replaced, substituted, under}
-use Rattle.frames.specs.Logic.{equal, pick, both}
 use Rattle.frames.specs.Database.{Statement, Database}
-use Rattle.frames.specs.Facts.{_∈_, symbolOf, statementOf, typecode, floated, Variable, Floats, StatementFacts}
+use Rattle.frames.specs.Facts.{_∈_, statementOf, typecode, floated, Variable, Floats, StatementFacts}
 use Rattle.frames.proofs.Chains.{pick-first, pick-second, both-second, equal-yes, equal-true}
 use Rattle.frames.proofs.Tells.{both-true}
 use Rattle.facts.proofs.InOrder.{after-above}

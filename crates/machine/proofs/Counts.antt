@@ -1,28 +1,27 @@
 -- Places and steps: the stack's height and the hypotheses consumed add up to the steps, and a step takes at least one byte. So an accepted
 -- proof has steps = 1 + all hypotheses consumed, and no place and no count of steps passes the text's length.
-use Prim.Native.Nat.{ℕ, zero, suc, _+_, _≤_, _<_}
+use Prim.Native.Nat.{ℕ, zero, suc, _+_, _≤_}
 use mathlib.Core.Path.{_≡_, refl}
-use mathlib.Core.Bool.{Bool, true, false}
 use mathlib.Core.Option.{Option, none, some}
 use mathlib.Core.List.{List, [], _∷_}
 use native.Mathlib.Omega.{arith}
 use lib.ListN.{length, drop, length-drop}
 use Rattle.book.specs.Book.{Expression, Substitution}
-use Rattle.frames.specs.Logic.{below, equal, pick, no, same}
+use Rattle.frames.specs.Logic.{pick}
 use Rattle.frames.specs.Database.{Statement, Database, database}
 use Rattle.frames.specs.Verdict.{verdict}
 use Rattle.frames.specs.declared.Verdict.the-variants.{Good}
 use Rattle.frames.specs.Facts.{statementOf}
 use Rattle.frames.proofs.Chains.{below-false, equal-yes}
 use Rattle.machine.specs.declared.Refusal.{Refusal}
-use Rattle.machine.specs.Chain.{Result, fine, stop, bind}
-use Rattle.machine.specs.Answer.{Answer, accepted, refused}
+use Rattle.machine.specs.Chain.{Result, bind}
+use Rattle.machine.specs.Answer.{accepted, refused}
 use Rattle.machine.specs.Ground.{expressionOf}
 use Rattle.machine.specs.Reading.{Parts}
 use Rattle.machine.specs.Memory.{Room, limited, Proved, Prepared, recalls, applies, Entry, Memory, push, addPlace, saveTop, addLocal, giveLocal}
 use Rattle.machine.specs.Prepare.{Ready, ready, spend, prepareHypothesis, prepareStatement, prepareFound, addReady, prepareRoster, preload, atPlace, readyWith, preparePlace, prepareLocal, prepareNamed, prepareNormal}
 use Rattle.machine.specs.Apply.{checkHyp, checkHyps, conclude, applyAssertion, assignEntries, runPrepared, runReady}
-use Rattle.machine.specs.Run.{Mode, isClaim, onlyEntry, unfinished, firstVariables, fresh, run, stepAt}
+use Rattle.machine.specs.Run.{Mode, isClaim, onlyEntry, unfinished, fresh, run, stepAt}
 use Rattle.machine.specs.Bench.{ended, answerGood, judged, answer}
 use Rattle.machine.specs.Promise.{Counted, all-steps, some-steps}
 use Rattle.machine.proofs.Gives.{Gives, gives, stops, unless-gives, bind-gives, pick-gives}

@@ -4,9 +4,9 @@ use mathlib.Core.Path.{_≡_, refl, sym, _∙_}
 use mathlib.Core.Bool.{Bool, true, false}
 use mathlib.Core.Logic.{_⊎_, inl, inr}
 use mathlib.Core.List.{List, [], _∷_, List·Memᴰ·head, List·Memᴰ·tail, List·Memᴰ·cases-cons, List·Memᴰ·not-nil}
-use Rattle.book.specs.Book.{Substitution, Ground, Disjoint, Occurs, Keeps}
-use Rattle.frames.specs.Logic.{equal, both, either, any, all}
-use Rattle.frames.specs.Database.{Statement, Database}
+use Rattle.book.specs.Book.{Substitution, Disjoint, Keeps}
+use Rattle.frames.specs.Logic.{equal, both}
+use Rattle.frames.specs.Database.{Database}
 use Rattle.frames.specs.Facts.{_∈_, statementOf, StatementFacts}
 use Rattle.frames.proofs.Chains.{equal-true}
 use Rattle.frames.proofs.Tells.{both-true, either-cases, all-member, any-witness}

@@ -1,27 +1,27 @@
 -- How a fact is followed through a whole run: if it holds at the start, and preparing, running, saving and labelling addIf it, then the
 -- answer has what the fact gives it. `I n m` says the fact of a memory after n bytes; `Q` is said of answers; `L` is the length of the text.
-use Prim.Native.Nat.{ℕ, zero, suc, _+_, _-_, _*_, _≤_, _<_}
-use mathlib.Core.Path.{_≡_, refl, sym, _∙_, ap}
-use mathlib.Core.Bool.{Bool, true, false}
-use mathlib.Core.Option.{Option, none, some}
+use Prim.Native.Nat.{ℕ, suc, _+_, _-_, _*_, _≤_, _<_}
+use mathlib.Core.Path.{_≡_, refl}
+use mathlib.Core.Bool.{Bool, false}
+use mathlib.Core.Option.{Option}
 use mathlib.Core.List.{List, [], _∷_, _++_}
 use native.Mathlib.Omega.{arith}
 use lib.ListN.{length, length-append}
-use Rattle.frames.specs.Logic.{below, pick, no, any, same}
 use Rattle.frames.specs.Database.{Database}
 use Rattle.frames.specs.Facts.{statementOf}
 use Rattle.machine.specs.declared.Refusal.{Refusal}
-use Rattle.machine.specs.declared.Refusal.the-variants.{BadByte, TooManyVariables, ProofMalformedVarint, ProofIncomplete, ProofInvalidSave}
-use Rattle.machine.specs.Chain.{Result, fine, stop, unless, bind}
+use Rattle.machine.specs.Chain.{bind}
 use Rattle.machine.specs.Answer.{Answer, accepted, refused}
 use Rattle.machine.specs.Ground.{expressionOf}
-use Rattle.machine.specs.Reading.{divider, badByte, Letter, last, higher, save, incomplete, ignored, letter, opening, closing, question, Parts, split}
-use Rattle.machine.specs.Memory.{Room, Proved, Memory, saveTop, giveLocal}
-use Rattle.machine.specs.Prepare.{greatestVariables, prepareRoster, preload, prepareNormal}
+use Rattle.machine.specs.Reading.{letter, Parts, split}
+use Rattle.machine.specs.declared.Letter.{Letter}
+use Rattle.machine.specs.declared.Letter.the-variants.{Last, Higher, Save, Incomplete, Ignored}
+use Rattle.machine.specs.Memory.{Room, Memory, saveTop, giveLocal}
+use Rattle.machine.specs.Prepare.{prepareRoster, preload, prepareNormal}
 use Rattle.machine.specs.Apply.{runReady}
-use Rattle.machine.specs.Run.{Mode, beginning, normal, inRoster, inLetters, Standing, State, going, over, settle, goOn, stepAt, onLetter, afterStep, onParts, onNormal, onToken, endToken, onPlain, byMode, onByte, onBytes, onlyEntry, accept, unfinished, finish, onEnd, firstVariables, fresh, begin, admitted, start, run, kLimit}
+use Rattle.machine.specs.Run.{Mode, beginning, normal, inRoster, inLetters, Standing, State, going, over, goOn, stepAt, onLetter, afterStep, onParts, onNormal, onToken, endToken, onPlain, byMode, onByte, onBytes, onlyEntry, accept, unfinished, finish, onEnd, firstVariables, fresh, begin, admitted, start, run}
 use Rattle.machine.specs.Bench.{ended}
-use Rattle.machine.proofs.Gives.{Gives, gives, stops, unless-gives, bind-gives, Stands, goes, ends, settle-stands, pick-stands}
+use Rattle.machine.proofs.Gives.{Gives, gives, unless-gives, Stands, goes, ends, settle-stands, pick-stands}
 
 -- what a fact must have to be followed
 pub record Followed (db : Database) (p : ℕ) (room : Room) (L : ℕ) (I : ℕ → Memory → Type 0) (Q : Answer → Type 0) : Type 0 where
@@ -58,18 +58,18 @@ module _ {db : Database} {p : ℕ} {room : Room} {L : ℕ} {I : ℕ → Memory �
   on-letter : (k : ℕ) (can : Bool) (at rest : ℕ) (m : Memory) (l : Letter) → at + suc rest ≡ L → I at m
       → Stands (Reads I L rest) Q (onLetter db p room m k can at l)
   unfolding onLetter
-  on-letter k can at rest m (last d) e i =
+  on-letter k can at rest m (Last d) e i =
       settle-stands at (m .steps) (F .letters (20 * k + d) i) (λ why. F .refuses why (omega arith) (omega arith) i)
       (λ m′ i′. went-on _ at rest m′ e i′)
-  on-letter k can at rest m (higher d) e i =
+  on-letter k can at rest m (Higher d) e i =
       settle-stands at (m .steps) (unless-gives {P = I at} _ _ (λ t. gives i)) (λ why. F .refuses why (omega arith) (omega arith) i)
       (λ m′ i′. went-on _ at rest m′ e (F .stays (omega arith) i′))
-  on-letter k can at rest m save e i =
+  on-letter k can at rest m Save e i =
       settle-stands at (m .steps) (unless-gives _ _ (λ t. F .saves i)) (λ why. F .refuses why (omega arith) (omega arith) i)
       (λ m′ i′. went-on _ at rest m′ e (F .stays (omega arith) i′))
-  on-letter k can at rest m incomplete e i =
+  on-letter k can at rest m Incomplete e i =
       ends (F .refuses {n = at} {k = at} _ (omega arith) (omega arith) i)
-  on-letter k can at rest m ignored e i = went-on _ at rest m e (F .stays (omega arith) i)
+  on-letter k can at rest m Ignored e i = went-on _ at rest m e (F .stays (omega arith) i)
 
   -- a whole token of at least one byte, from `from` to `at`; what comes next is followed from `at` on
   module _ {S : Standing → Type 0} (from at : ℕ) (long : from < at) (within : at ≤ L) where

@@ -3,7 +3,6 @@
 use Prim.Native.Nat.{ℕ}
 use mathlib.Core.Path.{_≡_, refl}
 use mathlib.Core.Bool.{Bool, true, false}
-use mathlib.Core.Option.{Option, none, some}
 use Rattle.frames.specs.Logic.{pick}
 use Rattle.machine.specs.declared.Refusal.{Refusal}
 use Rattle.machine.specs.Chain.{Result, fine, stop, unless, bind}

@@ -4,13 +4,12 @@ use Prim.Native.Nat.{ℕ, zero, suc, _<_}
 use mathlib.Core.Path.{_≡_}
 use mathlib.Core.Logic.{_⊎_}
 use mathlib.Core.Option.{Option, none, some}
-use mathlib.Core.List.{List, [], _∷_}
+use mathlib.Core.List.{List}
 use Rattle.book.specs.Book.{Derives}
 use Rattle.frames.specs.Database.{Database}
 use Rattle.frames.specs.Facts.{statementOf}
-use Rattle.machine.specs.Chain.{Result, fine, stop}
 use Rattle.machine.specs.Ground.{ground}
-use Rattle.machine.specs.Memory.{Room, Proved, Prepared, recalls, applies, Entry, Memory, push, addPlace, saveTop, placeOf, isSome, addLocal, giveLocal}
+use Rattle.machine.specs.Memory.{Room, Proved, Prepared, recalls, applies, Entry, Memory, push, addPlace, saveTop, addLocal, giveLocal}
 use Rattle.machine.specs.Prepare.{Ready, spend, atPlace}
 use Rattle.machine.proofs.Gives.{Gives, gives, stops, unless-gives}
 use Rattle.machine.proofs.Every.{Every, none, also, every-append}

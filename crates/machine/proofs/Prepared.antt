@@ -1,7 +1,7 @@
 -- Preparing is sound: what a label names may be supposed or applied. A $f is active by 29 and 30; a $e is found only where the statement
 -- lists it, and what is listed is active in a good file.
-use Prim.Native.Nat.{ℕ, zero, suc, _+_, _≤_, _<_}
-use mathlib.Core.Path.{_≡_, refl, sym}
+use Prim.Native.Nat.{ℕ, suc, _+_, _≤_, _<_}
+use mathlib.Core.Path.{_≡_, refl}
 use mathlib.Core.Bool.{Bool, true, false}
 use mathlib.Core.Logic.{_⊎_, inl, inr}
 use mathlib.Core.Option.{Option, none, some}
@@ -9,21 +9,20 @@ use mathlib.Core.List.{List, [], _∷_, List·Memᴰ·head, List·Memᴰ·tail}
 use native.Mathlib.Omega.{arith}
 use lib.ListN.{length, getD}
 use Rattle.book.specs.Book.{supposed}
-use Rattle.frames.specs.Logic.{below, atMost, equal, pick, either, both, no, same}
+use Rattle.frames.specs.Logic.{equal, pick, both, no, same}
 use Rattle.frames.specs.Layout.{supposes}
 use Rattle.frames.specs.Table.{within}
 use Rattle.frames.specs.Database.{Statement, Database}
-use Rattle.frames.specs.Facts.{_∈_, statementOf, Active, Facts}
+use Rattle.frames.specs.Facts.{_∈_, statementOf, Facts}
 use Rattle.frames.proofs.Chains.{atMost-false, equal-yes, equal-true, equal-false, below-true}
 use Rattle.frames.proofs.Tells.{both-true, both-false, either-false, either-cases, no-false, no-true, true-not-false}
 use Rattle.facts.proofs.Decoded.{supposes-kind}
-use Rattle.machine.specs.Chain.{Result, fine, stop, bind}
 use Rattle.machine.specs.Ground.{isFloat, isEssential, expressionOf, MaySuppose, ground}
 use Rattle.machine.specs.Reading.{Parts}
 use Rattle.machine.specs.Memory.{Room, Memory, placeOf}
-use Rattle.machine.specs.Prepare.{Ready, ready, leafOf, prepareHypothesis, firstFrom, bears, sought, bearsOwn, soughtOwn, orElse, soughtLabel, prepareStatement, prepareFound, addReady, prepareRoster, preload, readyWith, preparePlace, prepareLocal, prepareNamed, prepareNormal}
+use Rattle.machine.specs.Prepare.{Ready, ready, leafOf, prepareHypothesis, firstFrom, bears, sought, soughtOwn, orElse, soughtLabel, prepareStatement, prepareFound, addReady, prepareRoster, preload, readyWith, preparePlace, prepareLocal, prepareNamed, prepareNormal}
 use Rattle.machine.proofs.Gives.{Gives, gives, stops, unless-gives, bind-gives, pick-gives}
-use Rattle.machine.proofs.Holds.{Holds, Allowed, recalled, earlier, Sound, SoundReady, spend-sound, place-sound, at-place-sound}
+use Rattle.machine.proofs.Holds.{recalled, earlier, Sound, SoundReady, spend-sound, place-sound, at-place-sound}
 
 -- what is found has a property
 pub data Finds {A : Type 0} (P : A → Type 0) : Option A → Type 0 where

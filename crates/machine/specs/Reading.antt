@@ -1,10 +1,12 @@
--- How the bytes of a proof's text are read: dividers, the class of a packed letter, the three parts of a normal token.
+-- How the bytes of a proof's text are read: dividers, the class of a letter, the three parts of a normal token.
 use Prim.Native.Nat.{ℕ, _-_}
 use mathlib.Core.Bool.{Bool}
 use mathlib.Core.Option.{Option, none, some}
 use mathlib.Core.List.{List, [], _∷_, _++_}
 use Rattle.frames.specs.Logic.{atMost, equal, pick, either, both, no, oneOf}
 use Rattle.frames.specs.Table.{nameByte}
+use Rattle.machine.specs.declared.Letter.{Letter}
+use Rattle.machine.specs.declared.Letter.the-variants.{Last, Higher, Save, Incomplete, Ignored}
 
 -- tokens are divided by space, tab, CR, LF, FF
 unfoldable pub divider : ℕ → Bool
@@ -14,22 +16,15 @@ divider b = oneOf (equal b 32 ∷ equal b 9 ∷ equal b 13 ∷ equal b 10 ∷ eq
 unfoldable pub badByte : ℕ → Bool
 badByte b = no (either (nameByte b) (divider b))
 
--- the class of a packed letter: a step's last digit, a higher digit, `Z`, `?`, or a byte that is ignored
-pub data Letter : Type 0 where
-  last : ℕ → Letter
-  higher : ℕ → Letter
-  save : Letter
-  incomplete : Letter
-  ignored : Letter
-
--- `A`..`T` are 0 to 19, `U`..`Y` are 1 to 5
+-- the class of a letter of a compressed proof: `A`..`T` are the last digits 0 to 19, `U`..`Y` the higher digits 1 to 5, `Z` saves, `?` is an
+-- unknown step, every other byte is ignored
 unfoldable pub letter : ℕ → Letter
 letter b =
-    pick (both (atMost 65 b) (atMost b 84)) (last (b - 65))
-    (pick (both (atMost 85 b) (atMost b 89)) (higher (b - 84))
-    (pick (equal b 90) save
-    (pick (equal b 63) incomplete
-    ignored)))
+    pick (both (atMost 65 b) (atMost b 84)) (Last (b - 65))
+    (pick (both (atMost 85 b) (atMost b 89)) (Higher (b - 84))
+    (pick (equal b 90) Save
+    (pick (equal b 63) Incomplete
+    Ignored)))
 
 -- the tokens `(`, `)` and `?`, and the signs `:` and `=`
 abbrev pub opening : List ℕ

@@ -12,11 +12,12 @@ use Rattle.frames.specs.Facts.{statementOf}
 use Rattle.machine.specs.Chain.{Result, fine, stop, unless, bind}
 use Rattle.machine.specs.Answer.{Answer, accepted, refused}
 use Rattle.machine.specs.Ground.{expressionOf, mandatory}
-use Rattle.machine.specs.Reading.{divider, badByte, Letter, last, higher, save, incomplete, ignored, letter, opening, closing, question, Parts, split}
+use Rattle.machine.specs.Reading.{divider, badByte, letter, opening, closing, question, Parts, split}
+use Rattle.machine.specs.declared.Letter.{Letter}
+use Rattle.machine.specs.declared.Letter.the-variants.{Last, Higher, Save, Incomplete, Ignored}
 use Rattle.machine.specs.Memory.{Room, Proved, Entry, Memory, saveTop, giveLocal}
 use Rattle.machine.specs.Prepare.{greatestVariables, numbered, prepareRoster, preload, preparePlace, prepareNormal}
 use Rattle.machine.specs.Apply.{runReady}
-use Rattle.machine.specs.declared.Refusal.{Refusal}
 use Rattle.machine.specs.declared.Refusal.the-variants.{BadByte, ProofUnterminatedRoster, ProofMalformedVarint, ProofInvalidSave, ProofIncomplete, ProofExcessEnd, ProofNoSteps, ProofWrongTypeEnd, ProofWrongExprEnd, TooManyVariables}
 
 -- how the text is read on: no token yet; a normal proof; in the roster; in the letters, with k and whether `Z` may come
@@ -56,15 +57,15 @@ kLimit = 214748363
 
 -- a letter
 unfoldable pub onLetter : Database → ℕ → Room → Memory → ℕ → Bool → ℕ → Letter → State
-onLetter db p room m k canSave at (last d) =
+onLetter db p room m k canSave at (Last d) =
     settle (stepAt db p room m (20 * k + d)) at (m .steps) (goOn at (inLetters 0 true))
-onLetter db p room m k canSave at (higher d) =
+onLetter db p room m k canSave at (Higher d) =
     settle (unless (no (below (5 * k + d) kLimit)) ProofMalformedVarint (fine m)) at (m .steps) (goOn at (inLetters (5 * k + d) false))
-onLetter db p room m k canSave at save =
+onLetter db p room m k canSave at Save =
     settle (unless (no canSave) ProofInvalidSave (saveTop room m (m .stack))) at (m .steps) (goOn at (inLetters k false))
-onLetter db p room m k canSave at incomplete =
+onLetter db p room m k canSave at Incomplete =
     over (refused (pick (below 0 k) ProofMalformedVarint ProofIncomplete) at (m .steps))
-onLetter db p room m k canSave at ignored = goOn at (inLetters k canSave) m
+onLetter db p room m k canSave at Ignored = goOn at (inLetters k canSave) m
 
 -- after a normal step: its local label, at the token's place; the step counts
 unfoldable pub afterStep : Room → Parts → ℕ → (Memory → State) → Memory → State

@@ -1,0 +1,3 @@
+-- The laws of signs.
+pub mod Signs
+pub mod Letters

@@ -1,0 +1,2 @@
+-- The signs in a token.
+pub mod Signs
