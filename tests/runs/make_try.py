@@ -151,7 +151,7 @@ def main():
             facts(f'{crate}/proofs/{name.title()}.antt', 'machine_try', ['Hex', name.title()], [f'-- {comment}'], [(name, comment)])
         print(len(cases), 'rows')
         return
-    rows(f'{crate}/specs/Vectors.antt', ['-- Runs with the answers of another reading of document 01, made apart from this one: for each number but 44 the smallest files.'],
+    rows(f'{crate}/specs/Vectors.antt', ['-- Runs with the answers of another reading of document 01, made apart from this one: for each number but 2, 24 and 44 the smallest files.'],
          [('vectors', 'file in hexadecimal, statement, pool, stack, places, answer', chosen(vectors(folder), 1, 1300))])
     rows(f'{crate}/specs/Reading.antt', ['-- Runs with answers worked out by hand from document 01 (tests/runs/reading.py): two of each number in each mode.'],
          [('reading', 'file in hexadecimal, statement, pool, stack, places, answer', sample(hand_worked()))])

@@ -1,4 +1,4 @@
--- How a fact is followed through a whole run: if it holds at the start, and preparing, running, saving and labelling addIf it, then the
+-- How a fact is followed through a whole run: if it holds at the start, and preparing, running, saving and labelling keep it, then the
 -- answer has what the fact gives it. `I n m` says the fact of a memory after n bytes; `Q` is said of answers; `L` is the length of the text.
 use Prim.Native.Nat.{ℕ, suc, _+_, _-_, _*_, _≤_, _<_}
 use mathlib.Core.Path.{_≡_, refl}

@@ -1,5 +1,5 @@
 -- What soundness says of the things that a run holds: every tree on the stack or in a place derives the expression beside it, and every
--- assertion in a place may be applied. Pushing, saving and labelling addIf it.
+-- assertion in a place may be applied. Pushing, saving and labelling keep it.
 use Prim.Native.Nat.{ℕ, zero, suc, _<_}
 use mathlib.Core.Path.{_≡_}
 use mathlib.Core.Logic.{_⊎_}

@@ -1,5 +1,5 @@
 -- What an answer promises: an acceptance stands for a derivation, and its place and steps are as the paper says; every place and every
--- count of steps is within the text. (That all answers addIf it: proofs/Acceptance.antt, proofs/Counts.antt.)
+-- count of steps is within the text. (That all answers keep it: proofs/Acceptance.antt, proofs/Counts.antt.)
 use Prim.Native.Nat.{ℕ, suc, _≤_}
 use mathlib.Core.Path.{_≡_}
 use Rattle.book.specs.Book.{Tree, Derives}

@@ -138,7 +138,7 @@ onlyEntry claim (e ∷ f ∷ es) = stop ProofExcessEnd
 unfoldable pub accept : ℕ → Memory → Proved → State
 accept at m x = over (accepted at (m .steps) (m .consumed) (x .tree))
 
--- the end of the text, in each mode: an unfinished inRoster is 21, an unfinished k is 22
+-- the end of the text, in each mode: an unfinished roster is 21, an unfinished k is 22
 unfoldable pub unfinished : Mode → Result Proved → Result Proved
 unfinished beginning rest = rest
 unfinished normal rest = rest

@@ -3,14 +3,14 @@ use Prim.Native.Nat.{ℕ, _+_, _≤_, _<_}
 use mathlib.Core.Path.{_≡_, refl, _∙_, ap}
 use mathlib.Core.List.{List, [], _∷_}
 use native.Mathlib.Omega.{arith}
-use lib.ListN.{length, take}
+use lib.ListN.{length, take, drop}
 use Rattle.frames.proofs.Chains.{pick-first, pick-second, below-yes, below-no}
 use Rattle.frames.proofs.Tells.{true-not-false}
 use Rattle.packed.specs.Packing.{ended}
 use Rattle.packed.specs.Pool.{written, grown, Adds}
 use Rattle.packed.specs.declared.pool.Grown.{Grown}
 use Rattle.packed.specs.declared.pool.Grown.the-variants.{To, Full}
-use Rattle.packed.proofs.Written.{written-length, written-take}
+use Rattle.packed.proofs.Written.{written-length, written-take, written-past}
 
 -- a name of no bytes stays as it is
 pub ended-none : (name : List ℕ) → length name ≤ 0 → ended name ≡ name
@@ -33,8 +33,15 @@ adds-full bytes pool l =
       answers = grown-full (length bytes) _ _ l;
       sized = refl;
       kept = refl;
+      past = refl;
       holds = λ e. absurd (true-not-false (below-yes l) e);
     }
+
+-- what is past the limit stays
+past-written : (bytes pool pool′ : List ℕ) (used limit n : ℕ) → pool′ ≡ written bytes used pool → n ≡ used + length bytes → n ≤ limit
+    → limit ≤ length pool → drop limit pool′ ≡ drop limit pool
+past-written bytes pool pool′ used limit n w e l m =
+    ap (λ (p : List ℕ). drop limit p) w ∙ written-past bytes used pool limit (omega arith) (omega arith)
 
 -- there is room, and the bytes were written
 pub adds-to : {bytes pool pool′ : List ℕ} {used limit n : ℕ} → n ≡ used + length bytes → n ≤ limit → limit ≤ length pool
@@ -44,6 +51,7 @@ adds-to {bytes} {pool} {pool′} {used} e l m w =
       answers = grown-to (length bytes) _ _ _ e l;
       sized = ap length w ∙ written-length bytes used pool (omega arith);
       kept = ap (λ (p : List ℕ). take used p) w ∙ written-take bytes used pool (omega arith);
+      past = past-written bytes pool pool′ used _ _ w e l m;
       holds = λ b. w;
     }
 

@@ -11,7 +11,7 @@ use Rattle.frames.specs.Logic.{below, pick}
 use Rattle.frames.proofs.Chains.{below-no, below-true, below-false}
 use Rattle.packed.specs.Pool.{written, grown, Adds, joined}
 use Rattle.packed.specs.declared.pool.Grown.the-variants.{To, Full}
-use Rattle.packed.proofs.Written.{take-one-more, written-none, written-length, written-take, written-append}
+use Rattle.packed.proofs.Written.{take-one-more, written-none, written-length, written-take, written-past, written-append}
 use Rattle.packed.proofs.Adding.{grown-full, grown-to}
 
 -- what the answer says
@@ -102,6 +102,13 @@ module _ {text : ℕ → List ℕ} {xs : List ℕ} {used limit : ℕ} {pool : Li
   pub joins-kept : take used pool′ ≡ take used pool
   joins-kept = ap (λ (p : List ℕ). take used p) (j .is) ∙ written-take _ used pool (let e = j .ends in let r = j .room in let f = j .fits in omega arith)
 
+  joins-past : drop limit pool′ ≡ drop limit pool
+  joins-past =
+      let e = j .ends in
+      let r = j .room in
+      let f = j .fits in
+      ap (λ (p : List ℕ). drop limit p) (j .is) ∙ written-past _ used pool limit (omega arith) (omega arith)
+
   one-more : (s : ℕ) → i < length xs → s ≡ getD xs i 0 → joined text (front xs (i + 1)) ≡ joined text (front xs i) ++ text s
   unfolding joined
   one-more s l e =
@@ -137,6 +144,7 @@ module _ {text : ℕ → List ℕ} {xs : List ℕ} {used limit : ℕ} {pool : Li
         answers = grown-to _ used limit end (rw whole at (j .ends)) (j .room);
         sized = joins-length;
         kept = joins-kept;
+        past = joins-past;
         holds = λ b. rw whole at (j .is);
       }
 
@@ -157,5 +165,6 @@ module _ {text : ℕ → List ℕ} {xs : List ℕ} {used limit : ℕ} {pool : Li
         answers = grown-full _ used limit long;
         sized = a .sized ∙ joins-length;
         kept = sooner pool″ pool′ used end (omega arith) (a .kept) ∙ joins-kept;
+        past = a .past ∙ joins-past;
         holds = λ q. absurd (omega (arith, below-false _ _ q));
       }

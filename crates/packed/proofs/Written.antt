@@ -6,7 +6,7 @@ use native.Mathlib.Nat.{zero-add, suc-add, add-zero}
 use native.Mathlib.Numerals.{add-one}
 use native.Mathlib.Omega.{arith}
 use lib.ListN.{length, getD, take, drop, set, length-append, length-take, length-drop, length-set, take-append-drop}
-use lib.Seq.{length-take-le, take-suc, drop-cons, take-append-le, drop-append-le, take-at, drop-at, set-at, set-append-left, getD-take, drop-drop, take-append-seam}
+use lib.Seq.{length-take-le, take-suc, drop-cons, take-append-le, drop-append-le, take-at, drop-at, set-at, set-append-left, getD-take, drop-drop, take-append-seam, drop-append-add}
 use Rattle.packed.specs.Packing.{ended}
 use Rattle.packed.specs.Pool.{written, range}
 
@@ -68,6 +68,18 @@ module _ (xs : List ℕ) (at : ℕ) (pool : List ℕ) where
   pub written-take : at ≤ length pool → take at (written xs at pool) ≡ take at pool
   unfolding written
   written-take h = take-at _ _ at (length-take-le at pool h)
+
+  -- what stands after it stays
+  pub written-past : (k : ℕ) → at + length xs ≤ k → at + length xs ≤ length pool → drop k (written xs at pool) ≡ drop k pool
+  written-past k h f =
+      let size : length (take at pool ++ xs) ≡ at + length xs = front-length (omega arith) in
+      let there : k ≡ length (take at pool ++ xs) + (k - (at + length xs)) = omega arith in
+      let back : (at + length xs) + (k - (at + length xs)) ≡ k = omega arith in
+      ap (λ (r : List ℕ). drop k r) written-front
+      ∙ ap (λ (j : ℕ). drop j ((take at pool ++ xs) ++ drop (at + length xs) pool)) there
+      ∙ drop-append-add (take at pool ++ xs) (drop (at + length xs) pool) (k - (at + length xs))
+      ∙ drop-drop (k - (at + length xs)) (at + length xs) pool
+      ∙ ap (λ (j : ℕ). drop j pool) back
 
   -- each byte before it stays
   pub written-before : (j d : ℕ) → j < at → at ≤ length pool → getD (written xs at pool) j d ≡ getD pool j d

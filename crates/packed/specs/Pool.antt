@@ -24,12 +24,13 @@ range from to pool = take (to - from) (drop from pool)
 unfoldable pub grown : ℕ → ℕ → ℕ → Grown
 grown size used limit = pick (below limit (used + size)) Full (To (used + size))
 
--- bytes are added to the pool after the `used` ones. What was used stays as it was; where the answer is not `Full` the pool holds exactly
--- these bytes more. (After `Full` the bytes from `used` on are of no meaning: no one reads them)
+-- bytes are added to the pool after the `used` ones. What was used stays as it was, and so does all past the limit; where the answer is not
+-- `Full` the pool holds exactly these bytes more. (After `Full` the bytes from `used` up to the limit are of no meaning: no one reads them)
 pub record Adds (bytes : List ℕ) (used limit : ℕ) (pool pool′ : List ℕ) (answer : Grown) : Type 0 where
   pub answers : answer ≡ grown (length bytes) used limit
   pub sized : length pool′ ≡ length pool
   pub kept : take used pool′ ≡ take used pool
+  pub past : drop limit pool′ ≡ drop limit pool
   pub holds : below limit (used + length bytes) ≡ false → pool′ ≡ written bytes used pool
 
 -- symbol s is a variable

@@ -1,3 +1,4 @@
+// A port of parts of src/verify.rs of metamath-rs 0.3.9 (do_substitute_eq), changed (see NOTICE).
 // Comparing with the pool: a name, a copy within the pool, and the symbols of a statement, substituted or as they are, in one pass.
 ghost use mathlib.Core.Path.{_≡_};
 ghost use mathlib.Core.List.{[], _∷_};

@@ -1,3 +1,4 @@
+// A port of parts of src/verify.rs of metamath-rs 0.3.9 (subst_info, do_substitute_vars), changed (see NOTICE).
 // The table of a substitution, by the number of a symbol: where the image of a variable stands in the pool, and the set of the numbers
 // of the variables that occur in it, four words a symbol.
 ghost use mathlib.Core.Path.{_≡_};

@@ -1,3 +1,4 @@
+// A port of parts of src/verify.rs of metamath-rs 0.3.9 (writing into the buffer), changed (see NOTICE).
 // Writing into the pool: a text, a name with its last byte marked, a copy within the pool.
 ghost use mathlib.Core.Path.{_≡_};
 ghost use Prim.Native.Nat.{_+_, _-_, _≤_};

@@ -1,3 +1,4 @@
+// A port of parts of src/verify.rs of metamath-rs 0.3.9 (do_substitute, do_substitute_raw), changed (see NOTICE).
 // Substituting into the pool: the symbols of a statement, read where they lie in the file, each constant by its name and each variable
 // by its image, or all of them by their names.
 ghost use mathlib.Core.Path.{_≡_};

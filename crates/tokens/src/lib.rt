@@ -1,12 +1,12 @@
-// How the bytes of a proof's text are read: dividers and bad bytes, the class of a letter, and the three parts of a normal token, each a
-// part of the lent token.
+// A port of parts of src/verify.rs of metamath-rs 0.3.9 (the letters in verify_proof), changed (see NOTICE).
+// How the bytes of a proof's text are read: dividers and bad bytes, the class of a letter, where a sign stands; and (parts.rt) the three parts of
+// a normal token, each a part of the lent token.
+pub mod parts;
+
 ghost use mathlib.Core.Path.{_≡_};
-ghost use mathlib.Core.Option.{Option, some};
-ghost use Rattle.frames.specs.Logic as words;
 ghost use Rattle.frames.specs.Logic.{any};
 ghost use Rattle.machine.specs.Reading as reading;
-ghost use Rattle.machine.specs.Memory.{isSome};
-ghost use Rattle.tokens.specs.Signs.{signAt, partOr};
+ghost use Rattle.tokens.specs.Signs.{signAt};
 use frames::logic::either;
 use frames::logic::no;
 use frames::text::name_byte;
@@ -55,7 +55,7 @@ pub fn letter(b: u8) -> Letter
 }
 
 // Where the first of a sign stands in a token; the token's length where there is none.
-fn find(token: &[u8], sign: u8) -> usize
+pub fn find(token: &[u8], sign: u8) -> usize
     ensures { λ r. ⌜ r ≡ signAt sign (now (token .entry)) ⌝ }
 {
     let mut i = 0;

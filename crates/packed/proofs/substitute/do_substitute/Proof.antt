@@ -1,12 +1,7 @@
 -- `packed::substitute::do_substitute` meets its contract: after i symbols the pool has the pieces of those before the i-th (`Joins`); writing them leaves the images alone (`piece-kept`).
 use Rattle.packed.proofs.Lists.{substitutes-lists}
 use Prim.Native.Nat.{_-_, _<_}
-use Rattle.bitset.specs.Sets.{size}
 use Rattle.frames.specs.Layout.{symbolsAt}
-use Rattle.frames.specs.Table.{used}
-use Rattle.machine.proofs.Bound.{here}
-use Rattle.machine.proofs.Gives.{ends}
-use Rattle.machine.specs.BenchTable.{symbols}
 use Rattle.packed.proofs.Joining.{Joins, joins-done, joins-full, joins-length, joins-more, joins-none}
 use Rattle.packed.proofs.Pieces.{piece-kept}
 use Rattle.packed.proofs.Symbols.{here-symbol, imaged-one, symbols-length}

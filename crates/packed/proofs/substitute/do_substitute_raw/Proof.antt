@@ -1,11 +1,7 @@
 -- `packed::substitute::do_substitute_raw` meets its contract: after i symbols the pool has the names of those before the i-th (`Joins`).
 use Rattle.packed.proofs.Lists.{spells-lists}
 use Prim.Native.Nat.{_-_, _<_}
-use Rattle.bitset.specs.Sets.{size}
 use Rattle.frames.specs.Layout.{symbolsAt}
-use Rattle.frames.specs.Table.{used}
-use Rattle.machine.proofs.Bound.{here}
-use Rattle.machine.specs.BenchTable.{symbols}
 use Rattle.packed.proofs.Joining.{Joins, joins-done, joins-full, joins-length, joins-more, joins-none}
 use Rattle.packed.proofs.Symbols.{here-symbol, symbols-length}
 use Rattle.frames.proofs.Loops.{here-getD}

@@ -1,0 +1,3 @@
+-- The definition of the long form.
+pub mod LongForm
+pub mod LongTable

@@ -1,0 +1,2 @@
+-- The laws of the test of the images.
+pub mod Ranges

@@ -1,0 +1,51 @@
+-- `packed_c::image_within` meets its contract: the two tests are the two facts of an image, and a constant needs none.
+use borrow.Author.Needs.{needs}
+use Rattle.packed.proofs.Pieces.{var-no}
+use Rattle.packed_c.proofs.Ranges.{untold, imaged-range, imaged-constant}
+use Rattle.packed_c.proofs.image_within.Statement.{statement}
+use Rattle.packed_c.proofs.image_within.Tie as tie
+
+entry-requires : tie.Need-entry-requires
+entry-requires c κs = search needs
+
+class-requires : tie.Need-class-requires
+class-requires c κs = search needs
+
+entry-requires-2 : tie.Need-entry-requires-2
+entry-requires-2 c κs = search needs
+
+cast-from : tie.Need-cast-from
+cast-from c = search needs
+
+entry-requires-3 : tie.Need-entry-requires-3
+entry-requires-3 c κs = search needs
+
+cast-end : tie.Need-cast-end
+cast-end c = search needs
+
+returns : tie.Need-returns
+returns c = λ e. let a = c .before .before .before .before .before .before .before .before .before .before .before .args in imaged-range (a .file .now) (a .symbols .now) (a .froms .now) (a .tos .now) (a .s) (a .used) _ _ (c .before .before .before .entry2 .ensures) (c .before .before .entry3 .ensures) (c .before .if2 .taken) (c .if3 .taken)
+
+returns-2 : tie.Need-returns-2
+returns-2 c = untold
+
+returns-3 : tie.Need-returns-3
+returns-3 c = untold
+
+returns-4 : tie.Need-returns-4
+returns-4 c = λ e. let a = c .before .before .before .before .before .before .before .args in imaged-constant (a .file .now) (a .symbols .now) (a .froms .now) (a .tos .now) (a .s) (a .used) (var-no (a .file .now) (a .symbols .now) (a .s) _ _ (c .before .before .entry .ensures) (c .before .class .ensures) (c .if1 .left))
+
+pub image-within-spec : {M : Type 1} → statement M
+image-within-spec =
+    tie.close
+    (tie.spec
+    entry-requires
+    class-requires
+    entry-requires-2
+    cast-from
+    entry-requires-3
+    cast-end
+    returns
+    returns-2
+    returns-3
+    returns-4)

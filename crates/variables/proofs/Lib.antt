@@ -1,0 +1,3 @@
+-- The laws of numbering.
+pub mod Numbering
+pub mod Pairs

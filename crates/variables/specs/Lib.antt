@@ -1,0 +1,2 @@
+-- The numbering of variables.
+pub mod Numbering

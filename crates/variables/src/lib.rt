@@ -1,0 +1,39 @@
+// A port of parts of src/verify.rs of metamath-rs 0.3.9 (map_var), changed (see NOTICE).
+// The numbering of variables: a table, indexed by symbol number, of each variable's number plus 1, or 0 where it has none yet.
+ghost use mathlib.Core.Path.{_≡_};
+ghost use Prim.Native.Nat.{_<_};
+ghost use Rattle.frames.specs.Database.{statementAt};
+ghost use Rattle.machine.specs.Run.{members};
+ghost use Rattle.variables.specs.Numbering.{Maps, MapsAll};
+use frames::fields;
+
+// Numbers variable v, where it is not yet; answers how many have a number.
+pub fn map_var(numbers: &mut [u32], count: u32, v: usize) -> u32
+    requires { ⌜ count < 1000000 ⌝ }
+    ensures { λ r. ⌜ Maps (now (numbers .entry)) count v (now (numbers .exit)) r ⌝ }
+{
+    if v < numbers.len() {
+        if numbers[v] == 0 {
+            numbers[v] = count + 1;
+            return count + 1;
+        }
+    }
+    count
+}
+
+// Numbers the members of the pairs of the statement at `at`, as they are met.
+pub fn map_pairs(file: &[u8], at: u32, numbers: &mut [u32], count: u32) -> u32
+    requires { ⌜ count < 8192 ⌝ }
+    ensures { λ r. ⌜ MapsAll (now (numbers .entry)) count (members (statementAt (now (file .entry)) at .pairs)) (now (numbers .exit)) r ⌝ }
+{
+    let n = fields::pairs(file, at);
+    let mut c = count;
+    let mut i = 0;
+    while i < n {
+        let pair = fields::pair_of(file, at, i);
+        let left = map_var(numbers, c, pair.left.0);
+        c = map_var(numbers, left, pair.right.0);
+        i += 1;
+    }
+    c
+}
