@@ -1,38 +1,38 @@
 -- Accepted again: the long form of an accepted proof, run as a proof of the same statement in any room, is accepted with the same
 -- derivation, or lacks room (43 or 45). No other refusal comes up, 44 and 46 among them.
-use Prim.Native.Nat.{ℕ, suc, _≤_, _<_}
-use mathlib.Core.Path.{_≡_, refl, sym, ap, _∙_}
+use Prim.Native.Nat.{ℕ, _≤_, _<_}
+use mathlib.Core.Path.{_≡_, refl}
 use mathlib.Core.Bool.{Bool, true, false}
-use mathlib.Core.List.{List, [], _∷_, _++_}
+use mathlib.Core.List.{List, [], _∷_}
 use native.Mathlib.Omega.{arith}
 use lib.ListN.{length}
-use Rattle.book.specs.Book.{Expression, Tree, Derives}
-use Rattle.frames.specs.Logic.{below, equal, no, any, same}
-use Rattle.frames.specs.Database.{Statement, Database}
-use Rattle.frames.specs.Facts.{_∈_, statementOf, Facts}
-use Rattle.frames.proofs.Chains.{below-no, below-false, equal-yes, no-of-true}
+use Rattle.book.specs.Book.{Tree}
+use Rattle.frames.specs.Logic.{below, no, any}
+use Rattle.frames.specs.Database.{Database}
+use Rattle.frames.specs.Facts.{_∈_, Facts}
+use Rattle.frames.proofs.Chains.{below-no, below-false, equal-yes}
 use Rattle.frames.proofs.Found.{same-self}
 use Rattle.machine.specs.declared.Refusal.{Refusal}
 use Rattle.machine.specs.declared.Refusal.the-variants.{BadByte, TooManyVariables}
-use Rattle.machine.specs.Chain.{Result, fine, stop, unless}
+use Rattle.machine.specs.Chain.{fine, unless}
 use Rattle.machine.specs.Answer.{Answer, accepted, refused}
-use Rattle.machine.specs.Ground.{expressionOf, ground}
+use Rattle.machine.specs.Ground.{expressionOf}
 use Rattle.machine.specs.Reading.{badByte}
-use Rattle.machine.specs.Memory.{Room, Proved, Entry, Memory}
-use Rattle.machine.specs.Run.{Mode, normal, beginning, Standing, State, going, over, settle, onBytes, isClaim, onlyEntry, accept, unfinished, finish, onEnd, members, allNumbered, firstVariables, fresh, begin, admitted, start, run}
+use Rattle.machine.specs.Memory.{Room, Memory}
+use Rattle.machine.specs.Run.{normal, Standing, State, over, settle, onBytes, isClaim, onlyEntry, accept, unfinished, finish, onEnd, firstVariables, fresh, begin, admitted, start, run}
 use Rattle.machine.specs.Bench.{ended}
 use Rattle.machine.specs.Promise.{Proves, Derived, derived}
 use Rattle.machine.proofs.Gives.{Stands, goes, ends}
 use Rattle.machine.proofs.Every.{Every, none, also}
 use Rattle.machine.proofs.Acceptance.{run-derived}
 use Rattle.longform.specs.LongForm.{postOrder, joined, longText}
-use Rattle.longform.proofs.Comes.{Lacks, Comes, comes, lacks}
+use Rattle.longform.proofs.Comes.{Lacks, Comes, comes}
 use Rattle.longform.proofs.OneText.{Numbered, derivation-numbered}
 use Rattle.longform.proofs.Few.{Once, none, all-once}
 use Rattle.longform.proofs.Entries.{plain}
 use Rattle.longform.proofs.Steps.{Within, After}
 use Rattle.longform.proofs.Trees.{runAll, Covered, proved, tree-runs}
-use Rattle.longform.proofs.Bytes.{good-text, Plain, first, stand, over-stays, labels-run}
+use Rattle.longform.proofs.Bytes.{good-text, first, stand, over-stays, labels-run}
 use Rattle.longform.proofs.Numbering.{NamedBy, named-by, run-named}
 
 -- the answer to a long form: accepted with this tree, or a lack of room
@@ -81,7 +81,7 @@ module _ (db : Database) (p : ℕ) where
         (by-list {vars = vars} tree (firstVariables db p) numbers (tree-runs db p facts there room vars few tree d c (fresh (firstVariables db p)) (fresh-within vars inside))))
 
   -- an accepted run was admitted: no 257th variable at the start
-  start-few : (room : Room) (text : List ℕ) (place steps consumed : ℕ) (tree : Tree)
+  pub start-few : (room : Room) (text : List ℕ) (place steps consumed : ℕ) (tree : Tree)
       → ended (run db p room text) ≡ accepted place steps consumed tree → length (firstVariables db p) ≤ 256
   unfolding run start admitted settle unless onEnd ended
   start-few room text place steps consumed tree e = tried (any badByte text) (below 256 (length (firstVariables db p))) refl e

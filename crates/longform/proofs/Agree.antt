@@ -4,21 +4,21 @@ use Prim.Native.Nat.{ℕ, suc, _≤_, _<_}
 use mathlib.Core.Path.{_≡_, refl, sym, ap, _∙_}
 use mathlib.Core.Bool.{Bool, true, false}
 use mathlib.Core.Logic.{_⊎_, inl, inr}
-use mathlib.Core.List.{List, [], _∷_, _++_, map, List·Memᴰ·head, List·Memᴰ·tail, List·Memᴰ·cases-cons, List·Memᴰ·not-nil}
+use mathlib.Core.List.{List, [], _∷_, map, List·Memᴰ·head, List·Memᴰ·tail, List·Memᴰ·cases-cons, List·Memᴰ·not-nil}
 use native.Mathlib.Omega.{arith}
 use lib.ListN.{length, drop}
 use Rattle.book.specs.Book.{Expression, Substitution, replaced, substituted, under}
-use Rattle.frames.specs.Logic.{equal, both, no, same, pick}
+use Rattle.frames.specs.Logic.{both, no, same}
 use Rattle.frames.specs.Database.{Statement, Database}
-use Rattle.frames.specs.Facts.{_∈_, symbolOf, statementOf, floated, Variable, Floats, Given, StatementFacts, Facts}
-use Rattle.frames.proofs.Chains.{both-first, both-second, no-of-true, no-of-false, equal-yes, equal-no, equal-true}
+use Rattle.frames.specs.Facts.{_∈_, statementOf, floated, Variable, Given, Facts}
+use Rattle.frames.proofs.Chains.{both-first, both-second, no-of-true, no-of-false, equal-yes, equal-true}
 use Rattle.frames.proofs.Tells.{true-not-false}
 use Rattle.frames.proofs.Found.{same-self}
 use Rattle.machine.specs.Chain.{Result}
 use Rattle.machine.specs.Ground.{isVariable, isFloat, expression, expressionOf}
 use Rattle.machine.specs.Memory.{Proved}
 use Rattle.machine.specs.Apply.{bound, checkHyp, checkHyps}
-use Rattle.machine.proofs.Bound.{Paired, here, there, float-kind, float-image, float-under, same-expression}
+use Rattle.machine.proofs.Bound.{Paired, here, there, float-image, float-under, same-expression}
 use Rattle.longform.proofs.Comes.{Comes, unless-not}
 
 pub float-yes : (st : Statement) → st .kind ≡ 2 → isFloat st ≡ true

@@ -1,9 +1,9 @@
 -- What the long-form call answers: the proof's refusal; else 60, 61 or success, each exactly when the paper says. The text that is written
 -- is read off the derivation, which proves the claim by the book's rules.
-use Prim.Native.Nat.{ℕ, suc, _+_, _-_, _*_, _≤_, _<_, min}
+use Prim.Native.Nat.{ℕ, _-_, _*_, _≤_, _<_, min}
 use mathlib.Core.Path.{_≡_, refl, sym, ap, _∙_}
 use mathlib.Core.Bool.{Bool, true, false}
-use mathlib.Core.List.{List, []}
+use mathlib.Core.List.{List}
 use native.Mathlib.Omega.{arith}
 use lib.ListN.{length}
 use Rattle.book.specs.Book.{Tree}
@@ -11,7 +11,6 @@ use Rattle.frames.specs.Logic.{below, pick}
 use Rattle.frames.specs.Database.{Database, database}
 use Rattle.frames.specs.Facts.{Facts}
 use Rattle.frames.proofs.Chains.{below-yes, below-no, atMost-yes, atMost-no}
-use Rattle.machine.specs.declared.Refusal.{Refusal}
 use Rattle.machine.specs.Answer.{Answer, accepted, refused, turnedAway, notProvable, number, place, steps}
 use Rattle.machine.specs.Memory.{Room}
 use Rattle.machine.specs.Run.{run}
@@ -21,7 +20,6 @@ use Rattle.machine.proofs.Numbers.{refusal-number, file-number}
 use Rattle.machine.proofs.Acceptance.{accepted-derives}
 use Rattle.longform.specs.LongForm.{longText, fits, LongAnswer, nothingWritten, written, entriesFor, mostBytes, longOf, longAnswer}
 use Rattle.longform.proofs.Sizes.{fits-exactly}
-use Rattle.longform.proofs.Comes.{Lacks}
 use Rattle.longform.proofs.Again.{Again, again, lacking, accepted-again}
 
 -- the proof's own refusal, or 1 to 8, with its place and steps

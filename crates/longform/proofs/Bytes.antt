@@ -1,21 +1,21 @@
 -- The text of a long form is read label by label: each label is one step of a normal proof, and after the last one the run is at its end.
-use Prim.Native.Nat.{ℕ, suc, _+_, _-_, _≤_, _<_}
+use Prim.Native.Nat.{ℕ, suc, _+_, _-_, _≤_}
 use mathlib.Core.Path.{_≡_, refl, sym, ap, _∙_}
 use mathlib.Core.Bool.{Bool, true, false}
-use mathlib.Core.Logic.{_⊎_, inl, inr}
-use mathlib.Core.Option.{Option, none, some}
+use mathlib.Core.Logic.{inl, inr}
+use mathlib.Core.Option.{none}
 use mathlib.Core.List.{List, [], _∷_, _++_, append-assoc, append-nil}
 use native.Mathlib.Omega.{arith}
 use lib.ListN.{length}
-use Rattle.frames.specs.Logic.{atMost, equal, pick, either, both, no, oneOf, any, same}
+use Rattle.frames.specs.Logic.{atMost, equal, pick, either, both, no, oneOf, any}
 use Rattle.frames.specs.Table.{nameByte}
 use Rattle.frames.specs.Database.{Database}
 use Rattle.frames.specs.Facts.{LabelByte, small, capital, digit, hyphen, underscore, dot, Facts}
-use Rattle.frames.proofs.Chains.{pick-first, pick-second, both-second, either-first, either-second, one-later, one-last, equal-no, atMost-yes, no-of-true, no-of-false}
+use Rattle.frames.proofs.Chains.{pick-second, both-second, either-first, either-second, one-later, one-last, equal-no, atMost-yes, no-of-true, no-of-false}
 use Rattle.machine.specs.declared.Refusal.{Refusal}
-use Rattle.machine.specs.Chain.{Result, fine, stop, unless, bind}
+use Rattle.machine.specs.Chain.{Result, fine, unless}
 use Rattle.machine.specs.Answer.{Answer, refused}
-use Rattle.machine.specs.Reading.{divider, badByte, opening, question, parts, split}
+use Rattle.machine.specs.Reading.{divider, badByte, parts}
 use Rattle.machine.specs.Memory.{Room, Memory, giveLocal}
 use Rattle.machine.specs.Apply.{labelOf}
 use Rattle.machine.specs.Run.{Mode, beginning, normal, Standing, State, going, over, settle, goOn, afterStep, onParts, onNormal, onToken, endToken, onPlain, byMode, onByte, onBytes, finish, onEnd}

@@ -1,5 +1,5 @@
 -- What comes out of a chain that can only fail for lack of room: it has a property, or the refusal is 43 or 45.
-use mathlib.Core.Path.{_≡_, refl}
+use mathlib.Core.Path.{_≡_}
 use mathlib.Core.Bool.{Bool, true, false}
 use Rattle.frames.specs.Logic.{pick}
 use Rattle.machine.specs.declared.Refusal.{Refusal}

@@ -1,8 +1,7 @@
 -- The entries of an assertion in a long form: the trees below it lie on the stack, the last on top, and none has a mark.
-use Prim.Native.Nat.{ℕ, suc, _+_, _≤_}
-use mathlib.Core.Path.{_≡_, refl, sym, ap, _∙_}
-use mathlib.Core.Bool.{false}
-use mathlib.Core.Option.{Option, none, some}
+use Prim.Native.Nat.{ℕ, _+_}
+use mathlib.Core.Path.{_≡_, refl, ap, _∙_}
+use mathlib.Core.Option.{none}
 use mathlib.Core.List.{List, [], _∷_, _++_, map, reverse, reverseAux, reverseAux-eq, reverse-reverse}
 use native.Mathlib.Omega.{arith}
 use lib.ListN.{length, take, drop, length-map, length-reverse, length-append}

@@ -1,6 +1,6 @@
 -- The variables numbered by a run are all different; so if they stand among others, they are no more than those.
-use Prim.Native.Nat.{ℕ, suc, _+_, _≤_}
-use mathlib.Core.Path.{_≡_, refl, sym, ap, _∙_}
+use Prim.Native.Nat.{ℕ, _≤_}
+use mathlib.Core.Path.{_≡_, refl, sym, ap}
 use mathlib.Core.Bool.{Bool, true, false}
 use mathlib.Core.Logic.{_⊎_, inl, inr}
 use mathlib.Core.List.{List, [], _∷_, _++_, List·Memᴰ·head, List·Memᴰ·tail, List·Memᴰ·cases-cons, List·Memᴰ·not-nil, List·Memᴰ·append-cases, List·Memᴰ·eq-of-singleton, Memᴰ·append-left, Memᴰ·append-right}
@@ -8,7 +8,7 @@ use native.Mathlib.Omega.{arith}
 use lib.ListN.{length, length-append}
 use Rattle.frames.specs.Logic.{equal, pick}
 use Rattle.frames.specs.Facts.{_∈_}
-use Rattle.frames.proofs.Chains.{pick-first, pick-second, equal-yes}
+use Rattle.frames.proofs.Chains.{equal-yes}
 use Rattle.frames.proofs.Tells.{true-not-false}
 use Rattle.machine.specs.Ground.{among}
 use Rattle.machine.specs.Prepare.{numbered}

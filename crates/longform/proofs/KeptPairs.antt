@@ -1,15 +1,14 @@
 -- What the book says of disjointness passes the test: the pairs that a derivation keeps are kept by the substitution that a run finds.
-use Prim.Native.Nat.{ℕ, _<_}
-use mathlib.Core.Path.{_≡_, refl, sym, ap, _∙_}
+use Prim.Native.Nat.{ℕ}
+use mathlib.Core.Path.{_≡_, refl, sym}
 use mathlib.Core.Bool.{Bool, true, false}
 use mathlib.Core.Logic.{_⊎_, inl, inr}
 use mathlib.Core.List.{List, [], _∷_, List·Memᴰ·head, List·Memᴰ·tail, List·Memᴰ·cases-cons, List·Memᴰ·not-nil}
-use lib.ListN.{length}
-use Rattle.book.specs.Book.{Substitution, Ground, Disjoint, Occurs, Keeps}
-use Rattle.frames.specs.Logic.{equal, both, either, any, all, no}
-use Rattle.frames.specs.Database.{Statement, Database}
+use Rattle.book.specs.Book.{Substitution, Disjoint, Occurs, Keeps}
+use Rattle.frames.specs.Logic.{equal, both, either, any, all}
+use Rattle.frames.specs.Database.{Database}
 use Rattle.frames.specs.Facts.{_∈_, statementOf, floated}
-use Rattle.frames.proofs.Chains.{both-second, either-first, either-second, equal-yes, equal-true}
+use Rattle.frames.proofs.Chains.{both-second, either-first, equal-yes, equal-true}
 use Rattle.frames.proofs.Tells.{both-true, any-witness}
 use Rattle.machine.specs.Ground.{isVariable, isFloat, among, addIf, mandatory, mandatoryPairs, framePairs, ground}
 use Rattle.machine.specs.Apply.{isPair, disjoint, variablesOf, disjointFrom, keeps}

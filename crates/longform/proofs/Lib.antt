@@ -16,3 +16,12 @@ pub mod Numbering
 pub mod Again
 pub mod Answers
 pub mod Examples
+pub mod Alike
+pub mod AlikeRows
+pub mod Replaced
+pub mod Ahead
+pub mod Moves
+pub mod InRow
+pub mod NewFile
+pub mod SameGround
+pub mod LongForms

@@ -1,24 +1,24 @@
 -- A label in a long form names its statement: it is split into nothing, and what is sought by it is that statement.
-use Prim.Native.Nat.{ℕ, zero, suc, _+_, _≤_, _<_}
+use Prim.Native.Nat.{ℕ, zero, suc, _+_, _<_}
 use mathlib.Core.Path.{_≡_, refl, sym, ap, _∙_}
 use mathlib.Core.Bool.{Bool, true, false}
 use mathlib.Core.Logic.{_⊎_, inl, inr}
-use mathlib.Core.Option.{Option, none, some}
-use mathlib.Core.List.{List, [], _∷_, _++_, List·Memᴰ·head, List·Memᴰ·tail, List·Memᴰ·cases-cons, List·Memᴰ·not-nil}
+use mathlib.Core.Option.{none, some}
+use mathlib.Core.List.{List, [], _∷_, List·Memᴰ·head, List·Memᴰ·tail, List·Memᴰ·cases-cons, List·Memᴰ·not-nil}
 use native.Mathlib.Omega.{arith}
 use lib.ListN.{length, getD}
-use Rattle.frames.specs.Logic.{equal, pick, both, no, same}
+use Rattle.frames.specs.Logic.{equal, pick, same}
 use Rattle.frames.specs.Table.{within}
 use Rattle.frames.specs.Database.{Statement, Database}
 use Rattle.frames.specs.Facts.{_∈_, statementOf, LabelByte, small, capital, digit, hyphen, underscore, dot, Facts}
 use Rattle.frames.proofs.Chains.{pick-first, pick-second, both-first, both-second, no-of-true, no-of-false, equal-yes, equal-no, equal-true}
-use Rattle.frames.proofs.Tells.{both-true, no-true, true-not-false}
+use Rattle.frames.proofs.Tells.{both-true, true-not-false}
 use Rattle.frames.proofs.Found.{same-true, same-self}
-use Rattle.machine.specs.Chain.{Result, unless}
-use Rattle.machine.specs.Ground.{isFloat, isEssential}
-use Rattle.machine.specs.Reading.{colon, equals, question, opening, cut, prepend, Parts, parts, markAndLabel, localFirst, splitColon, split}
+use Rattle.machine.specs.Chain.{unless}
+use Rattle.machine.specs.Ground.{isEssential}
+use Rattle.machine.specs.Reading.{colon, equals, cut, prepend, parts, markAndLabel, splitColon, split}
 use Rattle.machine.specs.Memory.{Room, Memory}
-use Rattle.machine.specs.Prepare.{Ready, firstFrom, bears, sought, bearsOwn, soughtOwn, orElse, soughtLabel, prepareStatement, prepareNamed, ambiguous, prepareNormal}
+use Rattle.machine.specs.Prepare.{firstFrom, bears, sought, bearsOwn, soughtOwn, orElse, soughtLabel, prepareStatement, prepareNamed, ambiguous, prepareNormal}
 use Rattle.machine.specs.Apply.{labelOf}
 use Rattle.machine.proofs.Every.{Every, none, also}
 

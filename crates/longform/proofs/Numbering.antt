@@ -1,28 +1,27 @@
 -- The variables of a derivation: each $f in a tree that a run holds has its variable among those that the run has numbered, and these are
 -- at most 256. So the long form of an accepted proof names no variable that the proof did not number.
-use Prim.Native.Nat.{ℕ, zero, suc, _≤_, _<_}
-use mathlib.Core.Path.{_≡_, refl, sym, ap}
+use Prim.Native.Nat.{ℕ, zero, suc, _≤_}
+use mathlib.Core.Path.{_≡_, refl}
 use mathlib.Core.Bool.{Bool, true, false}
 use mathlib.Core.Logic.{_⊎_, inl, inr}
 use mathlib.Core.Option.{Option, none, some}
-use mathlib.Core.List.{List, [], _∷_, _++_, List·Memᴰ·append-cases, List·Memᴰ·eq-of-singleton, List·Memᴰ·not-nil}
-use native.Mathlib.Omega.{arith}
+use mathlib.Core.List.{List, [], _∷_, List·Memᴰ·append-cases, List·Memᴰ·eq-of-singleton, List·Memᴰ·not-nil}
 use lib.ListN.{length}
-use Rattle.book.specs.Book.{Expression, Substitution, Tree, leaf, node}
-use Rattle.frames.specs.Logic.{below, equal, pick, either}
+use Rattle.book.specs.Book.{Expression, Substitution, Tree}
+use Rattle.frames.specs.Logic.{pick}
 use Rattle.frames.specs.Layout.{supposes}
 use Rattle.frames.specs.Database.{Statement, Database}
 use Rattle.frames.specs.Facts.{_∈_, statementOf, floated}
 use Rattle.frames.proofs.Chains.{below-false}
 use Rattle.frames.proofs.Tells.{either-false, true-not-false}
 use Rattle.machine.specs.declared.Refusal.{Refusal}
-use Rattle.machine.specs.Chain.{Result, fine, stop, bind}
+use Rattle.machine.specs.Chain.{Result}
 use Rattle.machine.specs.Answer.{Answer, accepted, refused}
 use Rattle.machine.specs.Ground.{isFloat, expressionOf}
 use Rattle.machine.specs.Reading.{Parts}
 use Rattle.machine.specs.Memory.{Room, Proved, Prepared, recalls, applies, Entry, Memory, push, addPlace, saveTop, placeOf, addLocal, giveLocal}
 use Rattle.machine.specs.Prepare.{numbered, numberedBy, Ready, ready, spend, leafOf, prepareHypothesis, soughtLabel, prepareStatement, prepareFound, addReady, prepareRoster, preload, atPlace, readyWith, preparePlace, prepareLocal, prepareNamed, prepareNormal}
-use Rattle.machine.specs.Apply.{checkHyp, checkHyps, marked, unmarkedFirst, unmarked, seat, arranged, forest, conclusion, conclude, applyAssertion, assignEntries, runPrepared, runReady}
+use Rattle.machine.specs.Apply.{checkHyp, checkHyps, forest, conclusion, conclude, applyAssertion, assignEntries, runPrepared, runReady}
 use Rattle.machine.specs.Run.{Mode, isClaim, onlyEntry, unfinished, firstVariables, fresh, run, stepAt}
 use Rattle.machine.specs.Bench.{ended}
 use Rattle.machine.proofs.Gives.{Gives, gives, stops, unless-gives, bind-gives, pick-gives}

@@ -1,14 +1,14 @@
 -- One reading: labels in post-order stand for one derivation only. A reader with a stack rebuilds the tree, since each label tells how
 -- many trees it takes.
-use Prim.Native.Nat.{ℕ, zero, suc, _+_, _≤_, _<_}
+use Prim.Native.Nat.{ℕ, zero, suc, _+_}
 use mathlib.Core.Path.{_≡_, refl, sym, ap, _∙_}
-use mathlib.Core.Bool.{Bool, true, false}
+use mathlib.Core.Bool.{true, false}
 use mathlib.Core.Logic.{_⊎_, inl, inr}
 use mathlib.Core.List.{List, [], _∷_, _++_, append-assoc, append-nil, map}
 use native.Mathlib.Omega.{arith}
 use lib.ListN.{length, length-map}
 use Rattle.book.specs.Book.{Expression, Frame, Tree, leaf, node, Forest, empty, and, Substitution, under, Derives, supposed, applied, DeriveAll, nothing, more}
-use Rattle.frames.specs.Logic.{equal, pick, either}
+use Rattle.frames.specs.Logic.{pick}
 use Rattle.frames.specs.Layout.{supposes}
 use Rattle.frames.specs.Database.{Database}
 use Rattle.frames.specs.Facts.{statementOf}

@@ -1,13 +1,12 @@
 -- One text, one post-order: labels are not empty, have no space in them, and differ. So a text has one reading as a list of statements.
-use Prim.Native.Nat.{ℕ, suc, _≤_, _<_}
-use mathlib.Core.Path.{_≡_, refl, sym, ap, _∙_}
-use mathlib.Core.Logic.{_⊎_, inl, inr}
+use Prim.Native.Nat.{ℕ, _≤_, _<_}
+use mathlib.Core.Path.{_≡_, refl, sym}
 use mathlib.Core.List.{List, [], _∷_, _++_, List·Memᴰ·head, List·Memᴰ·tail}
 use native.Mathlib.Omega.{arith}
 use lib.ListN.{length}
 use Rattle.book.specs.Book.{Expression, Tree, leaf, node, Forest, empty, and, Derives, supposed, applied, DeriveAll, nothing, more}
 use Rattle.frames.specs.Database.{Database}
-use Rattle.frames.specs.Facts.{_∈_, statementOf, LabelByte, small, capital, digit, hyphen, underscore, dot, Facts}
+use Rattle.frames.specs.Facts.{_∈_, LabelByte, small, capital, digit, hyphen, underscore, dot, Facts}
 use Rattle.machine.specs.Ground.{ground}
 use Rattle.machine.specs.Apply.{labelOf}
 use Rattle.machine.proofs.Every.{Every, none, also, every-append}

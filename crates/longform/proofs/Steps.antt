@@ -1,33 +1,33 @@
 -- One label of a long form as a step: a leaf pushes its hypothesis, a node replaces the entries of the trees below it by its claim as the
 -- derivation has it. Nothing but a lack of room stops it.
-use Prim.Native.Nat.{ℕ, suc, _+_, _≤_, _<_}
+use Prim.Native.Nat.{ℕ, _+_, _≤_, _<_}
 use mathlib.Core.Path.{_≡_, refl, sym, ap, _∙_}
 use mathlib.Core.Bool.{Bool, true, false}
 use mathlib.Core.Logic.{_⊎_, inl, inr}
-use mathlib.Core.Option.{Option, none, some}
-use mathlib.Core.List.{List, [], _∷_, _++_, map, reverse}
+use mathlib.Core.Option.{none}
+use mathlib.Core.List.{List, _∷_, map, reverse}
 use native.Mathlib.Omega.{arith}
 use lib.ListN.{length, take, drop, length-map}
-use Rattle.book.specs.Book.{Expression, Frame, Substitution, under, Tree, leaf, node, Forest, Keeps}
-use Rattle.frames.specs.Logic.{below, atMost, equal, pick, either, both, no, all}
+use Rattle.book.specs.Book.{Expression, Frame, Substitution, under, node, Keeps}
+use Rattle.frames.specs.Logic.{pick, both, no}
 use Rattle.frames.specs.Layout.{supposes}
 use Rattle.frames.specs.Table.{within}
 use Rattle.frames.specs.Database.{Statement, Database}
 use Rattle.frames.specs.Facts.{_∈_, statementOf, floated, Facts}
 use Rattle.frames.proofs.Chains.{below-no, below-yes, atMost-no, both-first, both-second, either-first, equal-yes, no-of-true}
-use Rattle.machine.specs.Chain.{Result, fine, stop, unless, bind}
-use Rattle.machine.specs.Ground.{isVariable, isFloat, expressionOf, framePairs, frameOf, MaySuppose, MayApply, ground}
+use Rattle.machine.specs.Chain.{Result, bind}
+use Rattle.machine.specs.Ground.{isVariable, isFloat, expressionOf, framePairs, MaySuppose, MayApply, ground}
 use Rattle.machine.specs.Reading.{parts}
-use Rattle.machine.specs.Memory.{Room, Proved, Prepared, recalls, applies, Entry, Memory, push}
-use Rattle.machine.specs.Prepare.{greatestVariables, numbered, numberedBy, Ready, ready, spend, leafOf, prepareHypothesis, prepareStatement, prepareNormal}
+use Rattle.machine.specs.Memory.{Room, Proved, recalls, applies, Entry, Memory, push}
+use Rattle.machine.specs.Prepare.{numbered, numberedBy, Ready, ready, spend, leafOf, prepareHypothesis, prepareStatement, prepareNormal}
 use Rattle.machine.specs.Apply.{labelOf, checkMarks, bound, forest, conclusion, conclude, applyAssertion, assignEntries, runPrepared, runReady}
 use Rattle.machine.proofs.Bound.{float-kind}
-use Rattle.longform.proofs.Comes.{Lacks, pool-full, stack-full, Comes, comes, lacks, unless-not, unless-lacks, bind-comes, pick-yes, pick-not}
-use Rattle.longform.proofs.OneReading.{supposes-yes, supposes-no}
+use Rattle.longform.proofs.Comes.{pool-full, stack-full, Comes, comes, unless-not, unless-lacks, bind-comes, pick-yes, pick-not}
+use Rattle.longform.proofs.OneReading.{supposes-yes}
 use Rattle.longform.proofs.Naming.{Nameable, prepared-itself}
-use Rattle.longform.proofs.Agree.{Matched, matched-of, matched-length, float-same, claim-same, essential-same, hyps-pass}
+use Rattle.longform.proofs.Agree.{Matched, matched-length, float-same, claim-same, essential-same, hyps-pass}
 use Rattle.longform.proofs.KeptPairs.{either-yes, pairs-pass}
-use Rattle.longform.proofs.Few.{Once, Numbers, numbers, no-more}
+use Rattle.longform.proofs.Few.{Once, numbers, no-more}
 use Rattle.longform.proofs.Entries.{plain, stacked, stacked-length, top-entries, below-entries, no-marks, all-unmarked, in-order}
 
 -- one label as a step of a normal proof

@@ -1,15 +1,15 @@
 -- The labels of a derivation, run one after another, leave its tree and its expression on the stack, or lack room.
-use Prim.Native.Nat.{ℕ, suc, _+_, _≤_, _<_}
-use mathlib.Core.Path.{_≡_, refl, sym, ap, _∙_}
-use mathlib.Core.Bool.{Bool, true, false}
+use Prim.Native.Nat.{ℕ, _≤_, _<_}
+use mathlib.Core.Path.{_≡_, refl, ap, _∙_}
+use mathlib.Core.Bool.{true}
 use mathlib.Core.Logic.{_⊎_, inl, inr}
 use mathlib.Core.List.{List, [], _∷_, _++_, map, List·Memᴰ·head, Memᴰ·append-left, Memᴰ·append-right}
 use native.Mathlib.Omega.{arith}
 use lib.ListN.{length}
 use Rattle.book.specs.Book.{Expression, Frame, Substitution, under, Tree, leaf, node, Forest, empty, and, Keeps, Derives, supposed, applied, DeriveAll, nothing, more}
-use Rattle.frames.specs.Database.{Statement, Database}
+use Rattle.frames.specs.Database.{Database}
 use Rattle.frames.specs.Facts.{_∈_, statementOf, floated, Facts}
-use Rattle.machine.specs.Chain.{Result, fine, stop, bind}
+use Rattle.machine.specs.Chain.{Result, fine, bind}
 use Rattle.machine.specs.Ground.{isVariable, isFloat, expressionOf, framePairs, frameOf, MaySuppose, MayApply, ground}
 use Rattle.machine.specs.Memory.{Room, Proved, Entry, Memory}
 use Rattle.machine.specs.Prepare.{leafOf}
@@ -17,9 +17,8 @@ use Rattle.machine.specs.Apply.{forest}
 use Rattle.longform.specs.LongForm.{postOrder, postOrders}
 use Rattle.longform.proofs.Comes.{Comes, comes, lacks, bind-comes, bind-parts}
 use Rattle.longform.proofs.OneReading.{supposes-no}
-use Rattle.longform.proofs.Naming.{Nameable}
-use Rattle.longform.proofs.Agree.{Matched, matched-of}
-use Rattle.longform.proofs.Entries.{plain, stacked}
+use Rattle.longform.proofs.Agree.{matched-of}
+use Rattle.longform.proofs.Entries.{stacked}
 use Rattle.longform.proofs.Steps.{stepOf, Within, nodeOf, After, applied-nameable, leaf-step, node-step}
 
 -- labels one after another

@@ -1,3 +1,4 @@
 -- The definition of the long form.
 pub mod LongForm
 pub mod LongTable
+pub mod SameBut

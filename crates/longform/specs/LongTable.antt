@@ -3,7 +3,6 @@
 use Prim.Native.Nat.{ℕ}
 use Prim.Native.String.{String}
 use mathlib.Core.List.{List, [], _∷_, _++_}
-use Rattle.machine.specs.Memory.{Room}
 use Rattle.machine.specs.Files.{bytes, forever, float, essential, assertion, proof, greatest}
 use Rattle.machine.specs.BenchTable.{symbols, varP, varQ, implies, wff, proves, benchFile, first1, first2}
 use Rattle.longform.specs.LongForm.{LongAnswer, longAnswer, withProof}

@@ -6,7 +6,7 @@ pub mod Adding
 pub mod Joining
 pub mod Symbols
 pub mod Pieces
-pub mod Lists
 pub mod Comparing
 pub mod Imaging
 pub mod Numbering
+pub mod Lists

@@ -1,6 +1,6 @@
 -- The bytes that are read off the file, the table and the pool are packed texts of lists of symbols, so that what is said of the bytes is
 -- said of the lists.
-use Prim.Native.Nat.{ℕ, _<_}
+use Prim.Native.Nat.{ℕ, _≤_, _<_}
 use mathlib.Core.Path.{_≡_, refl, sym, _∙_, ap}
 use mathlib.Core.Bool.{Bool, true, false}
 use mathlib.Core.Logic.{_⊎_, inl, inr}
@@ -18,11 +18,13 @@ use Rattle.facts.proofs.GoodFacts.{good-facts}
 use Rattle.facts.proofs.Decoded.{database-symbols, database-symbol, database-statements, database-statement}
 use Rattle.machine.specs.Ground.{isVariable, expression, expressionOf}
 use Rattle.packed.specs.Packing.{ended, packedSymbol, packed}
-use Rattle.packed.specs.Pool.{range, isVar, spelled, image, piece, joined, Adds}
-use Rattle.packed.specs.Lists.{Indexed, Defined, Located, Shows, Substitutes, Spells, Compares, ComparesRaw}
+use Rattle.packed.specs.Pool.{range, isVar, spelled, image, piece, joined, Adds, Imaged}
+use Rattle.packed.specs.Lists.{Indexed, Defined, Located, Shows, Substitutes, Spells, Compares, ComparesRaw, Gathers}
+use Rattle.packed.specs.Images.{Gathered}
 use Rattle.packed.specs.declared.pool.Grown.{Grown}
 use Rattle.packed.proofs.Packs.{pack-substituted, pack-same}
 use Rattle.packed.proofs.Adding.{adds-same}
+use Rattle.packed.proofs.Numbering.{numbers-substituted}
 
 nothing-packed : (db : Database) (σ : Substitution) → [] ≡ packed db (substituted (isVariable db) σ [])
 unfolding packed substituted
@@ -184,3 +186,28 @@ module _ (f syms : List ℕ) (at : ℕ) where
             ∙ pack-same (good-facts f (ix .good)) xs _ (d .defined) (substituted-defined (database f) σ _ known (sh .defined)));
       },
     )
+
+-- the set gathered from the images is that of the statement as substituted
+pub gathers-lists : (f syms : List ℕ) (at : ℕ) {sets words : List ℕ} → Gathered f syms sets (drop 1 (symbolsAt f at)) words
+    → Gathered f syms sets (drop 1 (symbolsAt f at)) words × Gathers f syms at sets words
+gathers-lists f syms at {sets} {words} done = (
+  done,
+  record {
+    gathers = λ a σ vs ix loc images.
+        let known = located-defined loc (ix .good) in
+        let same-list : Gathered f syms sets (expressionOf (database f) a .symbols) words = rw (located-symbols loc) at done in
+        numbers-substituted (database f) vs f syms sets σ same-list (λ s m. var-is ix s (known .defined s m)) images;
+  },
+)
+
+-- the images of a statement's variables lie within the used part, said of the file's table
+pub imaged-located : {f syms : List ℕ} {a at : ℕ} (froms tos : List ℕ) (used : ℕ) → Indexed f syms → Located f a at
+    → ((s : ℕ) → s ∈ expressionOf (database f) a .symbols → isVariable (database f) s ≡ true → getD froms s 0 ≤ getD tos s 0)
+    → ((s : ℕ) → s ∈ expressionOf (database f) a .symbols → isVariable (database f) s ≡ true → getD tos s 0 ≤ used)
+    → Imaged f syms froms tos used (drop 1 (symbolsAt f at))
+imaged-located {f} {syms} {a} froms tos used ix loc rises within =
+    rw (located-symbols loc)
+    (record {
+      rises = λ s m v. rises s m (sym (var-is ix s (located-defined loc (ix .good) .defined s m)) ∙ v);
+      within = λ s m v. within s m (sym (var-is ix s (located-defined loc (ix .good) .defined s m)) ∙ v);
+    })

@@ -13,6 +13,7 @@ use Rattle.frames.specs.Facts.{_∈_, statementOf}
 use Rattle.machine.specs.Ground.{isVariable, expressionOf}
 use Rattle.packed.specs.Packing.{packed}
 use Rattle.packed.specs.Pool.{range, image, Adds}
+use Rattle.packed.specs.Images.{setOf, Numbers}
 use Rattle.packed.specs.declared.pool.Grown.{Grown}
 
 -- the file is good, and the front of the table has the offsets of its symbols
@@ -56,3 +57,10 @@ pub record Compares (f syms : List ℕ) (at : ℕ) (froms tos pool : List ℕ) (
 pub record ComparesRaw (f syms : List ℕ) (at : ℕ) (pool : List ℕ) (from to : ℕ) (answer : Bool) : Type 0 where
   pub tells : (a : ℕ) (xs : List ℕ) → Indexed f syms → Located f a at → Defined (database f) xs → range from to pool ≡ packed (database f) xs
       → answer ≡ same xs (expressionOf (database f) a .symbols)
+
+-- the answer is the set of the numbers of the variables that occur in the statement's symbols as substituted, where the table has the sets
+-- of the images
+pub record Gathers (f syms : List ℕ) (at : ℕ) (sets words : List ℕ) : Type 0 where
+  pub gathers : (a : ℕ) (σ : Substitution) (vs : List ℕ) → Indexed f syms → Located f a at
+      → ((s : ℕ) → s ∈ expressionOf (database f) a .symbols → isVariable (database f) s ≡ true → Numbers (database f) vs (σ s) (setOf sets s))
+      → Numbers (database f) vs (substituted (isVariable (database f)) σ (expressionOf (database f) a .symbols)) words

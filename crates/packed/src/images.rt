@@ -6,6 +6,7 @@ ghost use Prim.Native.Nat.{_<_};
 ghost use lib.ListN.{getD, set, drop};
 ghost use Rattle.frames.specs.Layout.{symbolsAt};
 ghost use Rattle.packed.specs.Images.{setOf, storeSet, Included, Gathered};
+ghost use Rattle.packed.specs.Lists.{Gathers};
 use bitset::Bitset;
 use frames::fields::class;
 use frames::read::u16_at;
@@ -94,7 +95,8 @@ fn include(file: &[u8], symbols: &[u32], sets: &[u64], all: Bitset, s: usize) ->
 
 // The set of a substituted expression: what the images of its variables have, the typecode left out.
 pub fn do_substitute_vars(file: &[u8], symbols: &[u32], at: u32, sets: &[u64]) -> Bitset
-    ensures { λ r. ⌜ Gathered (now (file .entry)) (now (symbols .entry)) (now (sets .entry)) (drop 1 (symbolsAt (now (file .entry)) at)) (r .words) ⌝ }
+    ensures bytes { λ r. ⌜ Gathered (now (file .entry)) (now (symbols .entry)) (now (sets .entry)) (drop 1 (symbolsAt (now (file .entry)) at)) (r .words) ⌝ }
+    ensures lists { λ r. ⌜ Gathers (now (file .entry)) (now (symbols .entry)) at (now (sets .entry)) (r .words) ⌝ }
 {
     let n = symbol_count(file, at);
     let base = symbols_from(file, at);

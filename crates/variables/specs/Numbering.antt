@@ -1,11 +1,13 @@
 -- The table of variable numbers: what it holds for the variables numbered so far, and what numbering one more does to it.
 use Prim.Native.Nat.{ℕ, _+_, _≤_, _<_}
 use mathlib.Core.Path.{_≡_}
-use mathlib.Core.List.{List}
+use mathlib.Core.List.{List, [], _∷_}
 use lib.ListN.{length, getD}
 use Rattle.frames.specs.Logic.{pick}
 use Rattle.frames.specs.Facts.{_∈_}
-use Rattle.machine.specs.Ground.{among}
+use Rattle.frames.specs.Database.{statementAt}
+use Rattle.frames.specs.Facts.{floated}
+use Rattle.machine.specs.Ground.{among, addIf, isFloat}
 use Rattle.machine.specs.Prepare.{numbered}
 use Rattle.machine.specs.Run.{allNumbered}
 use Rattle.packed.specs.Images.{numberIn}
@@ -30,3 +32,9 @@ pub record MapsAll (table : List ℕ) (count : ℕ) (xs table′ : List ℕ) (co
   pub sized : length table′ ≡ length table
   pub few : count′ ≤ count + length xs
   pub maps : (vs : List ℕ) → ((v : ℕ) → v ∈ xs → v < length table) → Numbered table count vs → Numbered table′ count′ (allNumbered vs xs)
+
+-- the variables of the $f among these statements, in their order, where the table has the statements' offsets
+unfoldable pub floatsAt : List ℕ → List ℕ → List ℕ → List ℕ
+floatsAt f stmts [] = []
+floatsAt f stmts (h ∷ hs) =
+    addIf (isFloat (statementAt f (getD stmts h 0))) (floated (statementAt f (getD stmts h 0))) (floatsAt f stmts hs)

@@ -1,4 +1,5 @@
 -- `packed::images::do_substitute_vars` meets its contract: what was gathered and what the rest has is what all have (`GatheredTo`).
+use Rattle.packed.proofs.Lists.{gathers-lists}
 use Prim.Native.Nat.{_-_}
 use Rattle.frames.specs.Layout.{symbolsAt}
 use Rattle.packed.proofs.Imaging.{GatheredTo, gathered-done, gathered-more, gathered-none}
@@ -51,7 +52,7 @@ loop-again c =
     gathered-more (c .before .before .before .loop .inv) h (c .include .ensures)
 
 returns : tie.Need-returns Inv-loop μ-loop
-returns c = let a = c .before .before .before .before .before .before .before .before .args in let l = symbols-length (a .file .now) (a .at) in gathered-done (c .before .loop .inv) (omega arith)
+returns c = let a = c .before .before .before .before .before .before .before .before .args in let l = symbols-length (a .file .now) (a .at) in gathers-lists (a .file .now) (a .symbols .now) (a .at) (gathered-done (c .before .loop .inv) (omega arith))
 
 pub do-substitute-vars-spec : {M : Type 1} → statement M
 do-substitute-vars-spec =
