@@ -1,0 +1,4 @@
+-- The laws of the engine.
+pub mod RawSets
+pub mod RawNumbers
+pub mod Hypotheses
