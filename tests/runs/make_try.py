@@ -2,7 +2,7 @@
 """Writes the examples that the definition of a run is computed on, inside the checker.
 
     make_try.py VECTORS                  the stored samples: crates/machine_try/specs and proofs
-    make_try.py VECTORS --all FOLDER N   files of N rows each in FOLDER (a copy of crates/machine_try), of 270 vectors and all
+    make_try.py VECTORS --all FOLDER N   files of N rows each in FOLDER (a copy of crates/machine_try), of 271 vectors and all
                                          hand-worked runs; a file above 2,000 bytes has a part of its own
 
 VECTORS has calls/calls.tsv with its files, and program/N.frames with N.expect. A row is a file, a statement number, the room
