@@ -10,7 +10,7 @@ use Rattle.frames.specs.Logic.{either, both, any}
 use Rattle.frames.proofs.Loops.{Here}
 use Rattle.bitset.specs.Sets.{member, Empty, United}
 use Rattle.packed.specs.Pool.{isVar}
-use Rattle.packed.specs.Images.{setOf, storeSet, hasMember, Included, Gathered}
+use Rattle.packed.specs.Images.{setWords, setOf, storeSet, hasMember, Included, Gathered}
 
 -- a list with one word stored at b
 one : List ℕ → ℕ → ℕ → List ℕ
@@ -55,7 +55,7 @@ module _ (l : List ℕ) (b w₀ w₁ w₂ w₃ : ℕ) where
   unfolding one two three four
   stored-3 h = getD-set-same (three l b w₀ w₁ w₂) (b + 3) w₃ 0 (simp length-set (omega arith))
 
-  stored-outside : (i : ℕ) → ((k : ℕ) → k < 4 → i ≡ b + k → ⊥) → getD (four l b w₀ w₁ w₂ w₃) i 0 ≡ getD l i 0
+  stored-outside : (i : ℕ) → ((k : ℕ) → k < setWords → i ≡ b + k → ⊥) → getD (four l b w₀ w₁ w₂ w₃) i 0 ≡ getD l i 0
   unfolding one two three four
   stored-outside i h =
       getD-set-other (three l b w₀ w₁ w₂) (b + 3) i w₃ 0 (h 3 (omega arith))
@@ -64,7 +64,7 @@ module _ (l : List ℕ) (b w₀ w₁ w₂ w₃ : ℕ) where
       ∙ getD-set-other l b i w₀ 0 (λ q. h 0 (omega arith) (omega arith))
 
 -- a list of four words, by its words
-four-words : (ws : List ℕ) → length ws ≡ 4 → getD ws 0 0 ∷ getD ws 1 0 ∷ getD ws 2 0 ∷ getD ws 3 0 ∷ [] ≡ ws
+four-words : (ws : List ℕ) → length ws ≡ setWords → getD ws 0 0 ∷ getD ws 1 0 ∷ getD ws 2 0 ∷ getD ws 3 0 ∷ [] ≡ ws
 four-words [] e = absurd (omega arith)
 four-words (a ∷ []) e = absurd (omega arith)
 four-words (a ∷ b ∷ []) e = absurd (omega arith)
@@ -73,18 +73,18 @@ four-words (a ∷ b ∷ c ∷ d ∷ []) e = refl
 four-words (a ∷ b ∷ c ∷ d ∷ x ∷ xs) e = absurd (omega arith)
 
 -- at the symbol whose set was stored stands that set
-pub stored-same : (sets : List ℕ) (s : ℕ) (ws : List ℕ) → length ws ≡ 4 → 4 * s + 3 < length sets → setOf (storeSet sets s ws) s ≡ ws
+pub stored-same : (sets : List ℕ) (s : ℕ) (ws : List ℕ) → length ws ≡ setWords → setWords * s + 3 < length sets → setOf (storeSet sets s ws) s ≡ ws
 unfolding setOf storeSet one two three four
 stored-same sets s ws e l =
-    let a = stored-0 sets (4 * s) (getD ws 0 0) (getD ws 1 0) (getD ws 2 0) (getD ws 3 0) l in
-    let b = stored-1 sets (4 * s) (getD ws 0 0) (getD ws 1 0) (getD ws 2 0) (getD ws 3 0) l in
-    let c = stored-2 sets (4 * s) (getD ws 0 0) (getD ws 1 0) (getD ws 2 0) (getD ws 3 0) l in
-    let d = stored-3 sets (4 * s) (getD ws 0 0) (getD ws 1 0) (getD ws 2 0) (getD ws 3 0) l in
+    let a = stored-0 sets (setWords * s) (getD ws 0 0) (getD ws 1 0) (getD ws 2 0) (getD ws 3 0) l in
+    let b = stored-1 sets (setWords * s) (getD ws 0 0) (getD ws 1 0) (getD ws 2 0) (getD ws 3 0) l in
+    let c = stored-2 sets (setWords * s) (getD ws 0 0) (getD ws 1 0) (getD ws 2 0) (getD ws 3 0) l in
+    let d = stored-3 sets (setWords * s) (getD ws 0 0) (getD ws 1 0) (getD ws 2 0) (getD ws 3 0) l in
     cc (four-words ws e)
 
 -- four stores, one after another
-pub stored-by : (sets : List ℕ) (s : ℕ) (ws : List ℕ) {l₁ l₂ l₃ l₄ : List ℕ} → l₁ ≡ set sets (4 * s) (getD ws 0 0)
-    → l₂ ≡ set l₁ (4 * s + 1) (getD ws 1 0) → l₃ ≡ set l₂ (4 * s + 2) (getD ws 2 0) → l₄ ≡ set l₃ (4 * s + 3) (getD ws 3 0)
+pub stored-by : (sets : List ℕ) (s : ℕ) (ws : List ℕ) {l₁ l₂ l₃ l₄ : List ℕ} → l₁ ≡ set sets (setWords * s) (getD ws 0 0)
+    → l₂ ≡ set l₁ (setWords * s + 1) (getD ws 1 0) → l₃ ≡ set l₂ (setWords * s + 2) (getD ws 2 0) → l₄ ≡ set l₃ (setWords * s + 3) (getD ws 3 0)
     → l₄ ≡ storeSet sets s ws
 unfolding storeSet
 stored-by sets s ws a b c d = cc
@@ -93,14 +93,14 @@ stored-by sets s ws a b c d = cc
 pub stored-other : (sets : List ℕ) (s t : ℕ) (ws : List ℕ) → (t ≡ s → ⊥) → setOf (storeSet sets s ws) t ≡ setOf sets t
 unfolding setOf storeSet one two three four
 stored-other sets s t ws h =
-    let a = kept (4 * t) (λ k l q. h (omega arith)) in
-    let b = kept (4 * t + 1) (λ k l q. h (omega arith)) in
-    let c = kept (4 * t + 2) (λ k l q. h (omega arith)) in
-    let d = kept (4 * t + 3) (λ k l q. h (omega arith)) in
+    let a = kept (setWords * t) (λ k l q. h (omega arith)) in
+    let b = kept (setWords * t + 1) (λ k l q. h (omega arith)) in
+    let c = kept (setWords * t + 2) (λ k l q. h (omega arith)) in
+    let d = kept (setWords * t + 3) (λ k l q. h (omega arith)) in
     cc
   where
-    kept : (i : ℕ) → ((k : ℕ) → k < 4 → i ≡ 4 * s + k → ⊥) → getD (storeSet sets s ws) i 0 ≡ getD sets i 0
-    kept = stored-outside sets (4 * s) (getD ws 0 0) (getD ws 1 0) (getD ws 2 0) (getD ws 3 0)
+    kept : (i : ℕ) → ((k : ℕ) → k < setWords → i ≡ setWords * s + k → ⊥) → getD (storeSet sets s ws) i 0 ≡ getD sets i 0
+    kept = stored-outside sets (setWords * s) (getD ws 0 0) (getD ws 1 0) (getD ws 2 0) (getD ws 3 0)
 
 -- the table keeps its length
 pub stored-length : (sets : List ℕ) (s : ℕ) (ws : List ℕ) → length (storeSet sets s ws) ≡ length sets

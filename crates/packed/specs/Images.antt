@@ -11,14 +11,25 @@ use Rattle.bitset.specs.Sets.{member}
 use Rattle.machine.specs.Ground.{isVariable}
 use Rattle.packed.specs.Pool.{isVar}
 
+-- how many words a set has: `Bitset::WORDS`
+abbrev pub setWords : ℕ
+setWords = 4
+
 -- the four words of symbol s; 0 past the end
 unfoldable pub setOf : List ℕ → ℕ → List ℕ
-setOf sets s = getD sets (4 * s) 0 ∷ getD sets (4 * s + 1) 0 ∷ getD sets (4 * s + 2) 0 ∷ getD sets (4 * s + 3) 0 ∷ []
+setOf sets s =
+    getD sets (setWords * s) 0 ∷ getD sets (setWords * s + 1) 0 ∷ getD sets (setWords * s + 2) 0 ∷ getD sets (setWords * s + 3) 0 ∷ []
 
 -- the table with these four words at symbol s; past the end nothing is stored
 unfoldable pub storeSet : List ℕ → ℕ → List ℕ → List ℕ
 storeSet sets s ws =
-    set (set (set (set sets (4 * s) (getD ws 0 0)) (4 * s + 1) (getD ws 1 0)) (4 * s + 2) (getD ws 2 0)) (4 * s + 3) (getD ws 3 0)
+    set
+    (set
+    (set (set sets (setWords * s) (getD ws 0 0)) (setWords * s + 1) (getD ws 1 0))
+    (setWords * s + 2)
+    (getD ws 2 0))
+    (setWords * s + 3)
+    (getD ws 3 0)
 
 -- symbol s is a variable, and n is a member of the set of its image
 unfoldable pub hasMember : List ℕ → List ℕ → List ℕ → ℕ → ℕ → Bool

@@ -8,6 +8,7 @@ use bitset::BitsetIter;
 use bitset::Member;
 use frames::Verdict;
 use frames::fields;
+use frames::numbers::SymbolNo;
 use frames::record::is_assertion;
 use frames::refer::entry;
 use libc::STDIN_FILENO;
@@ -110,7 +111,7 @@ fn bind(
     vars: Bitset,
 ) {
     if s < 65536 {
-        images::bind(froms, tos, sets, s, place(from), place(to), vars);
+        images::bind(froms, tos, sets, SymbolNo(s), place(from), place(to), vars);
     }
 }
 

@@ -4,14 +4,11 @@ use borrow.Author.Needs.{needs}
 use Rattle.packed.proofs.images.image_set.Statement.{statement}
 use Rattle.packed.proofs.images.image_set.Tie as tie
 
-mul-word-at : tie.Need-mul-word-at
-mul-word-at c = search needs
+mul-from : tie.Need-mul-from
+mul-from c = search needs
 
 word-at-requires : tie.Need-word-at-requires
 word-at-requires c κs = search needs
-
-mul-word-at-2 : tie.Need-mul-word-at-2
-mul-word-at-2 c = search needs
 
 add-word-at : tie.Need-add-word-at
 add-word-at c = search needs
@@ -19,17 +16,11 @@ add-word-at c = search needs
 word-at-requires-2 : tie.Need-word-at-requires-2
 word-at-requires-2 c κs = search needs
 
-mul-word-at-3 : tie.Need-mul-word-at-3
-mul-word-at-3 c = search needs
-
 add-word-at-2 : tie.Need-add-word-at-2
 add-word-at-2 c = search needs
 
 word-at-requires-3 : tie.Need-word-at-requires-3
 word-at-requires-3 c κs = search needs
-
-mul-word-at-4 : tie.Need-mul-word-at-4
-mul-word-at-4 c = search needs
 
 add-word-at-3 : tie.Need-add-word-at-3
 add-word-at-3 c = search needs
@@ -45,15 +36,12 @@ pub image-set-spec : {M : Type 1} → statement M
 image-set-spec =
     tie.close
     (tie.spec
-    mul-word-at
+    mul-from
     word-at-requires
-    mul-word-at-2
     add-word-at
     word-at-requires-2
-    mul-word-at-3
     add-word-at-2
     word-at-requires-3
-    mul-word-at-4
     add-word-at-3
     word-at-requires-4
     returns)

@@ -21,11 +21,11 @@ union-requires c κs = search needs
 
 returns : tie.Need-returns
 unfolding isVar symbolAt
-returns c = let a = c .before .before .before .before .before .before .before .before .args in included-yes (a .file .now) (a .symbols .now) (a .sets .now) (a .s) (equal-yes (cc)) (rw (c .before .image-set .ensures) at (c .union .ensures .0))
+returns c = let a = c .before .before .before .before .before .before .before .before .args in included-yes (a .file .now) (a .symbols .now) (a .sets .now) (a .s .0) (equal-yes (cc)) (rw (c .before .image-set .ensures) at (c .union .ensures .0))
 
 returns-2 : tie.Need-returns-2
 unfolding isVar symbolAt
-returns-2 c = let a = c .before .before .before .before .before .before .args in included-no (a .file .now) (a .symbols .now) (a .sets .now) (a .s) (a .all .words) (equal-no (λ e. c .if1 .left (cc)))
+returns-2 c = let a = c .before .before .before .before .before .before .args in included-no (a .file .now) (a .symbols .now) (a .sets .now) (a .s .0) (a .all .words) (equal-no (λ e. c .if1 .left (cc)))
 
 pub include-spec : {M : Type 1} → statement M
 include-spec =
