@@ -1,2 +1,3 @@
--- The laws of the test of the images.
+-- The laws of the test of the images, and of the answers.
 pub mod Ranges
+pub mod Answering

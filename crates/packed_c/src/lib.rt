@@ -8,11 +8,10 @@
 //   size_t packed_is_substituted(file, symbols, at, froms, tos, pool, from, to);
 //   size_t packed_is_spelled(file, symbols, at, pool, from, to);
 ghost use mathlib.Core.Path.{_≡_};
-ghost use mathlib.Core.Bool.{true};
-ghost use mathlib.Core.List.{[], _∷_};
-ghost use lib.ListN.{drop};
-ghost use Rattle.frames.specs.Layout.{symbolsAt};
-ghost use Rattle.packed.specs.Pool.{Imaged};
+ghost use lib.ListN.{length};
+ghost use Rattle.frames.specs.Logic.{both};
+ghost use Rattle.packed.specs.Pool.{range};
+ghost use Rattle.packed_c.specs.Answers.{numberOf, truthOf, spelling, substitution, imageWithin, within, roomed, lies, Answered, compared};
 use frames::fields;
 use frames::read::u16_at;
 use frames::record::symbol_count;
@@ -38,7 +37,7 @@ fn image_within(
     s: usize,
     used: usize,
 ) -> bool
-    ensures { λ r. ⌜ (r ≡ true → Imaged (now (file .entry)) (now (symbols .entry)) (now (froms .entry)) (now (tos .entry)) used (s ∷ [])) ⌝ }
+    ensures { λ r. ⌜ r ≡ imageWithin (now (file .entry)) (now (symbols .entry)) (now (froms .entry)) (now (tos .entry)) used s ⌝ }
 {
     if fields::class(file, entry(symbols, s)) == 1 {
         let from = entry(froms, s) as usize;
@@ -55,7 +54,7 @@ fn image_within(
 
 // Whether each variable of the statement at `at` has its image there.
 fn imaged(file: &[u8], symbols: &[u32], at: u32, froms: &[u32], tos: &[u32], used: usize) -> bool
-    ensures { λ r. ⌜ (r ≡ true → Imaged (now (file .entry)) (now (symbols .entry)) (now (froms .entry)) (now (tos .entry)) used (drop 1 (symbolsAt (now (file .entry)) at))) ⌝ }
+    ensures { λ r. ⌜ r ≡ within (now (file .entry)) (now (symbols .entry)) at (now (froms .entry)) (now (tos .entry)) used ⌝ }
 {
     let n = symbol_count(file, at);
     let base = symbols_from(file, at);
@@ -72,7 +71,9 @@ fn imaged(file: &[u8], symbols: &[u32], at: u32, froms: &[u32], tos: &[u32], use
 }
 
 // The number of an answer.
-fn number(grown: Grown) -> usize {
+fn number(grown: Grown) -> usize
+    ensures { λ r. ⌜ r ≡ numberOf grown ⌝ }
+{
     match grown {
         Grown::To(end) => end,
         Grown::Full => FULL,
@@ -80,7 +81,9 @@ fn number(grown: Grown) -> usize {
 }
 
 // The number of a truth value.
-fn truth(same: bool) -> usize {
+fn truth(same: bool) -> usize
+    ensures { λ r. ⌜ r ≡ truthOf same ⌝ }
+{
     if same { 1 } else { 0 }
 }
 
@@ -92,7 +95,9 @@ pub extern "C" fn packed_copy(
     limit: usize,
     from: usize,
     to: usize,
-) -> usize {
+) -> usize
+    ensures { λ r. ⌜ Answered (both (roomed used limit (now (pool .entry))) (lies from to used)) (range from to (now (pool .entry))) used limit (now (pool .entry)) (now (pool .exit)) r ⌝ }
+{
     if used <= limit {
         if limit <= pool.len() {
             if from <= to {
@@ -116,7 +121,9 @@ pub extern "C" fn packed_substitute(
     pool: &mut [u8],
     used: usize,
     limit: usize,
-) -> usize {
+) -> usize
+    ensures { λ r. ⌜ Answered (both (roomed used limit (now (pool .entry))) (within (now (file .entry)) (now (symbols .entry)) at (now (froms .entry)) (now (tos .entry)) used)) (substitution (now (file .entry)) (now (symbols .entry)) at (now (froms .entry)) (now (tos .entry)) (now (pool .entry))) used limit (now (pool .entry)) (now (pool .exit)) r ⌝ }
+{
     if used <= limit {
         if limit <= pool.len() {
             if imaged(file, symbols, at, froms, tos, used) {
@@ -145,7 +152,9 @@ pub extern "C" fn packed_spell(
     pool: &mut [u8],
     used: usize,
     limit: usize,
-) -> usize {
+) -> usize
+    ensures { λ r. ⌜ Answered (roomed used limit (now (pool .entry))) (spelling (now (file .entry)) (now (symbols .entry)) at) used limit (now (pool .entry)) (now (pool .exit)) r ⌝ }
+{
     if used <= limit {
         if limit <= pool.len() {
             return number(substitute::do_substitute_raw(file, symbols, at, pool, used, limit));
@@ -165,7 +174,9 @@ pub extern "C" fn packed_is_substituted(
     pool: &[u8],
     from: usize,
     to: usize,
-) -> usize {
+) -> usize
+    ensures { λ r. ⌜ r ≡ compared (both (lies from to (length (now (pool .entry)))) (within (now (file .entry)) (now (symbols .entry)) at (now (froms .entry)) (now (tos .entry)) (length (now (pool .entry))))) from to (now (pool .entry)) (substitution (now (file .entry)) (now (symbols .entry)) at (now (froms .entry)) (now (tos .entry)) (now (pool .entry))) ⌝ }
+{
     if from <= to {
         if to <= pool.len() {
             if imaged(file, symbols, at, froms, tos, pool.len()) {
@@ -194,7 +205,9 @@ pub extern "C" fn packed_is_spelled(
     pool: &[u8],
     from: usize,
     to: usize,
-) -> usize {
+) -> usize
+    ensures { λ r. ⌜ r ≡ compared (lies from to (length (now (pool .entry)))) from to (now (pool .entry)) (spelling (now (file .entry)) (now (symbols .entry)) at) ⌝ }
+{
     if from <= to {
         if to <= pool.len() {
             return truth(compare::raw_eq(file, symbols, at, pool, from, to));
