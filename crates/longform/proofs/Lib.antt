@@ -25,3 +25,4 @@ pub mod InRow
 pub mod NewFile
 pub mod SameGround
 pub mod LongForms
+pub mod Rooms
