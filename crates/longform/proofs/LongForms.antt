@@ -197,6 +197,7 @@ accepted-as e = rw e accepted-with
 -- that room is lacking
 pub record OneLongForm (file : List ℕ) (p : ℕ) (text : List ℕ) (first second : Answer) (again : LongAnswer) : Type 0 where
   pub derivation : Tree
+  pub text-is : text ≡ longText (database file) derivation
   pub proves : Proves (database file) p derivation
   pub accepts : AcceptedWith derivation first
   pub accepts-again : Again derivation second
@@ -218,6 +219,7 @@ demand-three file p room room′ entries output entries′ output′ text z t wh
     rw e
     (record {
       derivation = w .tree;
+      text-is = refl;
       proves = accepted-derives file p room (w .accepts);
       accepts = accepted-as (w .accepts);
       accepts-again = long-form-accepted file p room (w .place) _ (w .consumed) (w .tree) (w .accepts) short whole′ room′;
