@@ -97,8 +97,7 @@ def vectors(folder):
 
 def chosen(all_rows, count, limit, whole=False):
     """For each number, of calls and of the program: the smallest and some others, by a fixed seed; `whole`: one of every
-    number, where a file is below 8,000 bytes (the only vectors with 44 are of 10,556 bytes and more, on which computing passes the
-    checker's own limit of steps)."""
+    number, where a file is below 8,000 bytes (the one vector with 44 is of 10,556 bytes: make_big.py)."""
     groups = collections.defaultdict(list)
     for r in all_rows:
         groups[r[5], r[8]].append(r)

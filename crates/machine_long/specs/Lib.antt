@@ -1,0 +1,2 @@
+-- The example.
+pub mod ManyVariables
