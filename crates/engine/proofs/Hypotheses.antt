@@ -9,7 +9,6 @@ use Rattle.frames.specs.Logic.{pick}
 use Rattle.frames.specs.Database.{Statement, database, statementAt}
 use Rattle.frames.specs.Facts.{statementOf, floated}
 use Rattle.frames.proofs.Chains.{equal-yes, equal-no, below-yes, below-no}
-use Rattle.facts.proofs.Decoded.{database-statements, database-statement}
 use Rattle.machine.specs.declared.Refusal.{Refusal}
 use Rattle.machine.specs.declared.Refusal.the-variants.{PoolFull, TooManyVariables}
 use Rattle.machine.specs.Chain.{Result, fine, stop, unless}
@@ -24,6 +23,7 @@ use Rattle.packed.proofs.Packs.{pack-length}
 use Rattle.packed.proofs.Written.{range-written}
 use Rattle.packed.proofs.Joining.{grown-of-to, grown-of-full}
 use Rattle.variables.specs.Numbering.{Numbered, Maps}
+use Rattle.resolve.proofs.Filing.{located-statement}
 use Rattle.engine.specs.Hypothesis.{MapsFloat, resultOf, Prepares}
 use Rattle.engine.specs.declared.hypothesis.Prepared.the-variants.{Refused}
 use Rattle.engine.specs.declared.hypothesis.Prepared.the-variants as prepared
@@ -54,17 +54,6 @@ unfolding numberedBy isFloat pick
 float-none f at k table count kind not-two =
     record { sized = refl; maps = λ vs inside n. rw (equal-no (λ two. not-two (kind ∙ two))) n }
 
--- the statement that is read at its offset
-read-at : (f : List ℕ) (st : Statement) (o : ℕ) → st ≡ statementAt f o → st .at ≡ o
-unfolding statementAt
-read-at f st o e = ap (λ (x : Statement). x .at) e
-
-pub located-statement : {f : List ℕ} {h at : ℕ} → Located f h at → statementOf (database f) h ≡ statementAt f at
-located-statement {f} {h} {at} loc =
-    let count = database-statements f in
-    let read = database-statement f h (let t = loc .there in omega arith) in
-    read ∙ ap (statementAt f) (sym (loc .offset ∙ read-at f _ _ read))
-
 module _ (f syms : List ℕ) (at : ℕ) (table : List ℕ) (count : ℕ) (pool : List ℕ) (used limit : ℕ) {table′ : List ℕ} {count′ : ℕ}
     (m : MapsFloat f at table count table′ count′) where
   -- how many variables have a number then
@@ -81,6 +70,8 @@ module _ (f syms : List ℕ) (at : ℕ) (table : List ℕ) (count : ℕ) (pool :
   prepares-many many =
       record {
         sized = m .sized;
+        pool-sized = refl;
+        bounds = λ u c e. let z : _≡_ {A = ℕ} 0 1 = cc in absurd (omega arith);
         kept = refl;
         past = refl;
         follows = λ h mem room ix loc e u inside n.
@@ -90,7 +81,7 @@ module _ (f syms : List ℕ) (at : ℕ) (table : List ℕ) (count : ℕ) (pool :
         holds = λ h u c ix loc e. let z : _≡_ {A = ℕ} 0 1 = cc in absurd (omega arith);
       }
 
-  module _ {pool′ : List ℕ} (few : count′ ≤ 256) (fits : limit ≤ length pool) where
+  module _ {pool′ : List ℕ} (few : count′ ≤ 256) (fits : limit ≤ length pool) (same-size : length pool′ ≡ length pool) where
     -- no room in the pool
     pub prepares-full : Spells f syms at used limit pool pool′ Full → take used pool′ ≡ take used pool → drop limit pool′ ≡ drop limit pool
         → Prepares f syms at table count pool used limit table′ pool′ (Refused PoolFull)
@@ -98,6 +89,8 @@ module _ (f syms : List ℕ) (at : ℕ) (table : List ℕ) (count : ℕ) (pool :
     prepares-full spells kept past =
         record {
           sized = m .sized;
+          pool-sized = same-size;
+          bounds = λ u c e. let z : _≡_ {A = ℕ} 0 1 = cc in absurd (omega arith);
           kept = kept;
           past = past;
           follows = λ h mem room ix loc e u inside n.
@@ -110,12 +103,17 @@ module _ (f syms : List ℕ) (at : ℕ) (table : List ℕ) (count : ℕ) (pool :
         }
 
     -- it is ready
-    pub prepares-ready : {end : ℕ} → Spells f syms at used limit pool pool′ (To end) → take used pool′ ≡ take used pool → drop limit pool′ ≡ drop limit pool
+    pub prepares-ready : {end : ℕ} → used ≤ end → end ≤ limit → Spells f syms at used limit pool pool′ (To end) → take used pool′ ≡ take used pool → drop limit pool′ ≡ drop limit pool
         → Prepares f syms at table count pool used limit table′ pool′ (prepared.Ready end count′)
     unfolding prepareHypothesis resultOf
-    prepares-ready {end} spells kept past =
+    prepares-ready {end} low high spells kept past =
         record {
           sized = m .sized;
+          pool-sized = same-size;
+          bounds = λ u c e.
+              let end-is : u ≡ end = cc in
+              let count-is : c ≡ count′ = cc in
+              (omega arith, (omega arith, omega arith));
           kept = kept;
           past = past;
           follows = λ h mem room ix loc e u inside n.

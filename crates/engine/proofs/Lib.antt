@@ -2,3 +2,7 @@
 pub mod RawSets
 pub mod RawNumbers
 pub mod Hypotheses
+pub mod Leaves
+pub mod Readying
+pub mod Placed
+pub mod Rostering

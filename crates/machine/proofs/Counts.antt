@@ -132,7 +132,7 @@ module _ (db : Database) (p : ℕ) (room : Room) (n : ℕ) where
   unfolding checkHyp
   hyp-counts σ st e g = unless-gives _ _ (λ t. unless-gives _ _ (λ u. g))
 
-  hyps-count : {A : Type 0} {P : A → Type 0} {rest : Result A} (σ : Substitution) (hs : List ℕ) (xs : List Proved) → Gives P rest
+  pub hyps-count : {A : Type 0} {P : A → Type 0} {rest : Result A} (σ : Substitution) (hs : List ℕ) (xs : List Proved) → Gives P rest
       → Gives P (checkHyps db σ hs xs rest)
   unfolding checkHyps
   hyps-count σ [] [] g = g

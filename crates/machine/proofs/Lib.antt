@@ -11,3 +11,4 @@ pub mod Applied
 pub mod Numbers
 pub mod Acceptance
 pub mod Counts
+pub mod Stepped

@@ -64,7 +64,7 @@ module _ (l : List ℕ) (b w₀ w₁ w₂ w₃ : ℕ) where
       ∙ getD-set-other l b i w₀ 0 (λ q. h 0 (omega arith) (omega arith))
 
 -- a list of four words, by its words
-four-words : (ws : List ℕ) → length ws ≡ setWords → getD ws 0 0 ∷ getD ws 1 0 ∷ getD ws 2 0 ∷ getD ws 3 0 ∷ [] ≡ ws
+pub four-words : (ws : List ℕ) → length ws ≡ setWords → getD ws 0 0 ∷ getD ws 1 0 ∷ getD ws 2 0 ∷ getD ws 3 0 ∷ [] ≡ ws
 four-words [] e = absurd (omega arith)
 four-words (a ∷ []) e = absurd (omega arith)
 four-words (a ∷ b ∷ []) e = absurd (omega arith)

@@ -20,7 +20,7 @@ unfolding range
 range-length from to pool h k = length-take-le _ _ (rw length-drop (omega arith))
 
 -- a part of the front of a joined buffer
-range-front : (from to : ℕ) (xs ys : List ℕ) → from ≤ to → to ≤ length xs → range from to (xs ++ ys) ≡ range from to xs
+pub range-front : (from to : ℕ) (xs ys : List ℕ) → from ≤ to → to ≤ length xs → range from to (xs ++ ys) ≡ range from to xs
 unfolding range
 range-front from to xs ys h k =
     let l : from ≤ length xs = omega arith in

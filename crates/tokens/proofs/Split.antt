@@ -18,7 +18,7 @@ use Rattle.machine.specs.Reading.{cut, parts, markAndLabel, localFirst, splitCo
 use Rattle.tokens.proofs.Halves.{First, first-at, cut-at, cut-none, at-first, first-kept, first-cut, first-left}
 
 -- what is left of the beginning of a list
-drop-take : (i m : ℕ) (l : List ℕ) → drop i (take m l) ≡ take (m - i) (drop i l)
+pub drop-take : (i m : ℕ) (l : List ℕ) → drop i (take m l) ≡ take (m - i) (drop i l)
 drop-take zero m l = rw sub-zero
 drop-take (suc i) zero l = rw zero-sub
 drop-take (suc i) (suc m) [] = sym (take-nil (suc m - suc i))

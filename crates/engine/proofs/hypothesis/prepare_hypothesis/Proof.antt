@@ -1,5 +1,6 @@
 -- `engine::hypothesis::prepare_hypothesis` meets its contract: 44, 43 and the rest in the order of the definition (`prepares-many`, `prepares-full`, `prepares-ready`).
 use Rattle.engine.proofs.Hypotheses.{prepares-full, prepares-many, prepares-ready}
+use Rattle.packed.proofs.Joining.{grown-of-to}
 use borrow.Author.Needs.{needs}
 use native.Mathlib.Omega.{arith}
 use Rattle.engine.proofs.hypothesis.prepare_hypothesis.Statement.{statement}
@@ -44,7 +45,8 @@ returns-2 : tie.Need-returns-2
 returns-2 c =
     let a = c .before .before .before .before .before .before .before .before .before .before .before .before .before .before .before .before .args in
     let add = c .before .before .before .before .before .do-substitute-raw .ensures .0 in
-    prepares-ready (a .file .now) (a .symbols .now) (a .at) (a .numbers .now) (a .count) (a .pool .now) (a .used) (a .limit) (c .before .before .before .before .before .before .before .before .before .before .map-float .ensures) (omega arith) (omega arith) (rw (c .before .end .given .1) at (c .before .before .before .before .before .do-substitute-raw .ensures .1)) (add .kept) (add .past)
+    let said = grown-of-to _ (a .used) (a .limit) _ (rw (c .before .end .given .1) at (add .answers)) in
+    prepares-ready (a .file .now) (a .symbols .now) (a .at) (a .numbers .now) (a .count) (a .pool .now) (a .used) (a .limit) (c .before .before .before .before .before .before .before .before .before .before .map-float .ensures) (omega arith) (omega arith) (add .sized) (let e = said .0 in omega arith) (said .1) (rw (c .before .end .given .1) at (c .before .before .before .before .before .do-substitute-raw .ensures .1)) (add .kept) (add .past)
 
 -- src/hypothesis.rt:31:1
 same-length-4 : tie.Need-same-length-4
@@ -59,7 +61,7 @@ returns-3 : tie.Need-returns-3
 returns-3 c =
     let a = c .before .before .before .before .before .before .before .before .before .before .before .before .before .before .before .args in
     let add = c .before .before .before .before .do-substitute-raw .ensures .0 in
-    prepares-full (a .file .now) (a .symbols .now) (a .at) (a .numbers .now) (a .count) (a .pool .now) (a .used) (a .limit) (c .before .before .before .before .before .before .before .before .before .map-float .ensures) (omega arith) (omega arith) (rw (c .enum-told .given .1) at (c .before .before .before .before .do-substitute-raw .ensures .1)) (add .kept) (add .past)
+    prepares-full (a .file .now) (a .symbols .now) (a .at) (a .numbers .now) (a .count) (a .pool .now) (a .used) (a .limit) (c .before .before .before .before .before .before .before .before .before .map-float .ensures) (omega arith) (omega arith) (add .sized) (rw (c .enum-told .given .1) at (c .before .before .before .before .do-substitute-raw .ensures .1)) (add .kept) (add .past)
 
 pub prepare-hypothesis-spec : {M : Type 1} → statement M
 prepare-hypothesis-spec =

@@ -1,0 +1,2 @@
+-- The laws of packed answers.
+pub mod Unpacking

@@ -1,0 +1,2 @@
+-- The answer of a call as one number.
+pub mod Packed

@@ -1,0 +1,5 @@
+-- The laws of applying an assertion.
+pub mod OneHyp
+pub mod Processing
+pub mod Claims
+pub mod Steps

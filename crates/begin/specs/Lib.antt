@@ -1,0 +1,2 @@
+-- What comes before the first token of a proof.
+pub mod Begins

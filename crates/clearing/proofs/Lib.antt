@@ -1,0 +1,2 @@
+-- The law of clearing.
+pub mod Clearing

@@ -1,0 +1,2 @@
+-- Clearing a lent buffer.
+pub mod Cleared

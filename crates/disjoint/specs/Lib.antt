@@ -1,0 +1,2 @@
+-- The disjointness test of an assertion.
+pub mod Disjoint

@@ -1,0 +1,3 @@
+-- What comes after a normal step and at the end of a proof.
+pub mod Local
+pub mod End

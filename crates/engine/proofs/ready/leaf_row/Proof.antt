@@ -1,0 +1,33 @@
+-- `engine::ready::leaf_row` meets its contract.
+use Rattle.frames.specs.Facts.{typecode}
+use mathlib.Core.Path.{refl}
+use borrow.Author.Needs.{needs}
+use Rattle.engine.proofs.ready.leaf_row.Statement.{statement}
+use Rattle.engine.proofs.ready.leaf_row.Tie as tie
+use Rattle.engine.proofs.raw_set.raw_set.Reads as raw-set-reads
+use Rattle.frames.proofs.fields.typecode.Reads as typecode-reads
+
+-- src/ready.rt:30:9
+typecode-requires : tie.Need-typecode-requires
+typecode-requires c κs = search needs
+
+-- src/ready.rt:31:9
+raw-set-requires : tie.Need-raw-set-requires
+raw-set-requires c κs = search needs
+
+-- src/ready.rt:18:1
+returns : tie.Need-returns
+unfolding typecode
+returns c =
+    record {
+      head = c .before .typecode .ensures;
+      from-is = refl;
+      to-is = refl;
+      tag-is = refl;
+      end-is = refl;
+      vars = c .raw-set .ensures;
+      sized = search needs;
+    }
+
+pub leaf-row-spec : {M : Type 1} → statement M
+leaf-row-spec = tie.close (tie.spec typecode-requires raw-set-requires returns)

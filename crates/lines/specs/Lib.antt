@@ -1,0 +1,3 @@
+-- The lines that the program prints.
+pub mod Lines
+pub mod Extends

@@ -1,0 +1,3 @@
+-- The working memory of a run.
+pub mod Table
+pub mod Shown

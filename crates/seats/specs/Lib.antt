@@ -1,0 +1,3 @@
+-- Which entry goes to which hypothesis.
+pub mod Marks
+pub mod Seats

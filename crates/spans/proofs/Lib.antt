@@ -1,0 +1,2 @@
+-- The laws of spans.
+pub mod Spanning

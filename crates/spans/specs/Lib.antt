@@ -1,0 +1,2 @@
+-- Where the parts of a token stand in the text.
+pub mod Spans
