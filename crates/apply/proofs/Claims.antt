@@ -1,27 +1,26 @@
 -- The claim of an assertion as substituted: its variables have images, and its row stands for it.
-use Prim.Native.Nat.{ℕ, _+_, _-_, _*_, _≤_, _<_}
+use Prim.Native.Nat.{ℕ, _+_, _-_, _≤_, _<_}
 use mathlib.Core.Path.{_≡_, refl, sym, _∙_, ap}
 use mathlib.Core.Bool.{Bool, true, false}
 use mathlib.Core.Logic.{_⊎_, inl, inr}
-use mathlib.Core.List.{List, [], _∷_, _++_, append-nil, List·Memᴰ·head, List·Memᴰ·tail, List·Memᴰ·not-nil, List·Memᴰ·cases-cons, List·Memᴰ·append-cases}
+use mathlib.Core.List.{List, [], _∷_, append-nil, List·Memᴰ·head, List·Memᴰ·tail, List·Memᴰ·not-nil, List·Memᴰ·cases-cons, List·Memᴰ·append-cases}
 use native.Mathlib.Omega.{arith}
-use lib.ListN.{length, getD, take, drop}
-use Rattle.book.specs.Book.{Expression, Substitution, replaced, substituted, under}
-use Rattle.frames.specs.Logic.{equal, below}
-use Rattle.frames.specs.Database.{Database, database, statementAt}
-use Rattle.frames.specs.Facts.{_∈_, statementOf, floated, typecode, Variable, Floats, Facts}
+use lib.ListN.{length, drop}
+use Rattle.book.specs.Book.{Substitution, replaced, substituted, under}
+use Rattle.frames.specs.Database.{Database, database}
+use Rattle.frames.specs.Facts.{_∈_, statementOf, floated, typecode, Floats}
 use Rattle.frames.proofs.Chains.{equal-true, equal-false, below-yes, below-no}
 use Rattle.frames.proofs.Tells.{true-not-false}
 use Rattle.facts.proofs.GoodFacts.{good-facts}
 use Rattle.machine.specs.declared.Refusal.the-variants.{PoolFull}
 use Rattle.machine.specs.Ground.{isVariable, isFloat, expression, expressionOf, addIf, mandatory}
-use Rattle.machine.specs.Memory.{Proved, Memory, cost, push}
+use Rattle.machine.specs.Memory.{cost}
 use Rattle.machine.specs.Prepare.{spend}
 use Rattle.machine.specs.Apply.{conclude, conclusion}
 use Rattle.packed.specs.Packing.{packed}
-use Rattle.packed.specs.Pool.{range, Adds}
+use Rattle.packed.specs.Pool.{range}
 use Rattle.packed.specs.declared.pool.Grown.the-variants.{To, Full}
-use Rattle.packed.specs.Lists.{Indexed, Defined, Located, Shows, Substitutes}
+use Rattle.packed.specs.Lists.{Located, Shows, Substitutes}
 use Rattle.packed.proofs.Packs.{pack-length}
 use Rattle.packed.proofs.Written.{range-written}
 use Rattle.packed.proofs.Joining.{grown-of-to, grown-of-full}
@@ -32,8 +31,8 @@ use Rattle.memory.specs.declared.table.Row.{Row}
 use Rattle.memory.specs.declared.Counts.{Counts}
 use Rattle.memory.specs.declared.Limits.{Limits}
 use Rattle.memory.specs.declared.Outcome.{Outcome}
-use Rattle.memory.specs.declared.Outcome.the-variants.{Go, Refused}
-use Rattle.memory.specs.Shown.{roomOf, bench, lent, markOf, Means, Shown, Ends, withPool, withStack, withUsed, Pushes}
+use Rattle.memory.specs.declared.Outcome.the-variants.{Refused}
+use Rattle.memory.specs.Shown.{markOf, Means, withUsed, Pushes}
 use Rattle.memory.proofs.Stored.{push-used}
 use Rattle.memory.proofs.Showing.{shown-grown, down-drop}
 use Rattle.memory.proofs.Ending.{ends-stop, ends-skip, push-ends}

@@ -1,5 +1,5 @@
 -- One hypothesis with its entry: the clauses of its contract, and what they mean for the definition's test.
-use Prim.Native.Nat.{ℕ, _≤_, _<_, _%_}
+use Prim.Native.Nat.{ℕ, _≤_, _%_}
 use mathlib.Core.Path.{_≡_, refl, sym, _∙_, ap}
 use mathlib.Core.Bool.{Bool, true, false}
 use mathlib.Core.List.{List}
@@ -7,8 +7,8 @@ use native.Mathlib.Omega.{arith}
 use lib.ListN.{length, getD, set, length-set}
 use lib.Seq.{getD-set-same, getD-set-other}
 use Rattle.frames.specs.Logic.{below, equal, pick}
-use Rattle.frames.specs.Database.{Database, database, statementAt}
-use Rattle.frames.specs.Facts.{_∈_, statementOf, floated, typecode}
+use Rattle.frames.specs.Database.{statementAt}
+use Rattle.frames.specs.Facts.{floated, typecode}
 use Rattle.frames.proofs.Chains.{pick-first, pick-second, equal-yes, equal-no, equal-true, equal-false, below-true, below-false}
 use Rattle.frames.proofs.Loops.{getD-past}
 use Rattle.frames.proofs.Tells.{true-not-false}

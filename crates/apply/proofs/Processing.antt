@@ -10,26 +10,23 @@ use lib.Seq.{getD-set-same, getD-set-other, drop-cons, take-all}
 use Rattle.book.specs.Book.{Expression, Substitution, substituted}
 use Rattle.frames.specs.Logic.{equal, pick, both, no, same}
 use Rattle.frames.specs.Database.{Database, database, statementAt}
-use Rattle.frames.specs.Facts.{_∈_, statementOf, floated, typecode, Variable, Floats, StatementFacts, Facts}
-use Rattle.frames.proofs.Chains.{pick-first, pick-second, equal-yes, equal-no, equal-true, equal-false}
-use Rattle.frames.proofs.Loops.{Here, here-list, here-getD}
+use Rattle.frames.specs.Facts.{_∈_, statementOf, floated, typecode, StatementFacts, Facts}
+use Rattle.frames.proofs.Chains.{equal-yes, equal-no, equal-true, equal-false}
 use Rattle.facts.proofs.GoodFacts.{good-facts}
 use Rattle.facts.proofs.InOrder.{essential-ready, float-new}
 use Rattle.machine.specs.declared.Refusal.{Refusal}
 use Rattle.machine.specs.declared.Refusal.the-variants.{StepFloatWrongType, StepEssenWrongType, StepEssenWrong}
-use Rattle.machine.specs.Chain.{Result, stop, unless}
+use Rattle.machine.specs.Chain.{Result, unless}
 use Rattle.machine.specs.Ground.{isVariable, isFloat, expression, expressionOf, addIf, mandatory}
 use Rattle.machine.specs.Memory.{Proved, Memory}
 use Rattle.machine.specs.Apply.{bound, checkHyp, checkHyps}
 use Rattle.machine.proofs.Bound.{Paired, here, there, float-image, float-kind}
-use Rattle.packed.specs.Pool.{range, image}
-use Rattle.packed.specs.Images.{setOf, storeSet}
-use Rattle.packed.specs.Lists.{Indexed, Defined, Located, Shows, Compares}
+use Rattle.packed.specs.Pool.{image}
+use Rattle.packed.specs.Images.{storeSet}
+use Rattle.packed.specs.Lists.{Indexed, Located, Shows}
 use Rattle.packed.proofs.Imaging.{stored-same, stored-other}
-use Rattle.packed.proofs.Lists.{located-defined}
 use Rattle.packed.proofs.Written.{take-one-more}
-use Rattle.resolve.specs.Filed.{Filed}
-use Rattle.resolve.proofs.Filing.{located-statement, filed-indexed, filed-statement, filed-located}
+use Rattle.resolve.proofs.Filing.{located-statement, filed-indexed, filed-located}
 use Rattle.memory.specs.declared.table.Row.{Row}
 use Rattle.memory.specs.Table.{RowAt}
 use Rattle.memory.specs.Shown.{Along, ends, next, Means}

@@ -1,13 +1,13 @@
 -- A step of an assertion, part by part.
 use Prim.Native.Nat.{ℕ, _+_, _-_, _≤_, _<_}
 use mathlib.Core.Path.{_≡_, refl, sym, _∙_, ap}
-use mathlib.Core.Bool.{Bool, true, false}
+use mathlib.Core.Bool.{true, false}
 use mathlib.Core.Logic.{_⊎_, inl, inr}
-use mathlib.Core.List.{List, _++_, map, reverse, Memᴰ·append-left}
+use mathlib.Core.List.{List, map, reverse, Memᴰ·append-left}
 use native.Mathlib.Omega.{arith}
 use lib.ListN.{length, getD, take, length-reverse}
 use lib.Seq.{length-take-le}
-use Rattle.frames.specs.Logic.{below, no, all}
+use Rattle.frames.specs.Logic.{below}
 use Rattle.frames.specs.Database.{Statement, Database, database, statementAt}
 use Rattle.frames.specs.Facts.{_∈_, statementOf}
 use Rattle.frames.proofs.Chains.{no-of-true, no-of-false, below-yes, below-no}
@@ -26,7 +26,7 @@ use Rattle.disjoint.proofs.Tabling.{tabled-grown}
 use Rattle.memory.specs.declared.Counts.{Counts}
 use Rattle.memory.specs.declared.Limits.{Limits}
 use Rattle.memory.specs.declared.Outcome.{Outcome}
-use Rattle.memory.specs.declared.Outcome.the-variants.{Go, Refused}
+use Rattle.memory.specs.declared.Outcome.the-variants.{Refused}
 use Rattle.memory.specs.Shown.{bench, lent, Extends, Along, EntryShown, Shown, refuses}
 use Rattle.memory.proofs.Showing.{along-map, down-length, down-take}
 use Rattle.memory.proofs.Ending.{ends-by, ends-stop, ends-skip}

@@ -13,7 +13,7 @@ use Rattle.machine.specs.Ground.{isVariable, mandatory}
 use Rattle.machine.specs.Memory.{Proved, Memory}
 use Rattle.machine.specs.Apply.{bound, checkHyps}
 use Rattle.packed.specs.Packing.{packed}
-use Rattle.packed.specs.Pool.{range, image}
+use Rattle.packed.specs.Pool.{image}
 use Rattle.packed.specs.Images.{setOf, storeSet, Numbers}
 use Rattle.packed.specs.Lists.{Defined, Located, Compares}
 use Rattle.resolve.specs.Filed.{Filed}

@@ -6,7 +6,7 @@ use mathlib.Core.List.{List}
 use native.Mathlib.Omega.{arith}
 use lib.ListN.{length, getD, take, drop}
 use Rattle.frames.specs.Logic.{pick}
-use Rattle.frames.specs.Database.{Statement, database, statementAt}
+use Rattle.frames.specs.Database.{database, statementAt}
 use Rattle.frames.specs.Facts.{statementOf, floated}
 use Rattle.frames.proofs.Chains.{equal-yes, equal-no, below-yes, below-no}
 use Rattle.machine.specs.declared.Refusal.{Refusal}

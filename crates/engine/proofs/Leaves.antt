@@ -1,5 +1,5 @@
 -- A hypothesis that was made ready: the row of it stands for its expression, all of whose variables are numbered.
-use Prim.Native.Nat.{ℕ, _+_, _*_, _≤_, _<_}
+use Prim.Native.Nat.{ℕ, _+_, _≤_, _<_}
 use mathlib.Core.Path.{_≡_, refl, sym, _∙_, ap}
 use mathlib.Core.Bool.{Bool, true, false}
 use mathlib.Core.Logic.{_⊎_, inl, inr}
@@ -8,17 +8,16 @@ use native.Mathlib.Omega.{arith}
 use lib.ListN.{length, getD, drop}
 use Rattle.bitset.specs.Sets.{size}
 use Rattle.frames.specs.Logic.{equal, pick}
-use Rattle.frames.specs.Layout.{symbolsAt}
-use Rattle.frames.specs.Database.{Statement, Database, database, statementAt}
-use Rattle.frames.specs.Facts.{_∈_, statementOf, floated, typecode, Variable, Floats, StatementFacts, Facts}
-use Rattle.frames.proofs.Chains.{equal-yes, equal-no, equal-true, equal-false}
+use Rattle.frames.specs.Database.{Database, database}
+use Rattle.frames.specs.Facts.{_∈_, statementOf, floated, typecode, Facts}
+use Rattle.frames.proofs.Chains.{equal-yes, equal-no, equal-true}
 use Rattle.frames.proofs.Tells.{any-witness}
 use Rattle.facts.proofs.GoodFacts.{good-facts}
-use Rattle.machine.specs.Ground.{isVariable, isFloat, expression, expressionOf, among, addIf, mandatory}
+use Rattle.machine.specs.Ground.{isVariable, isFloat, expression, expressionOf, among, mandatory}
 use Rattle.machine.specs.Prepare.{numbered, numberedBy}
 use Rattle.packed.specs.Packing.{packed}
 use Rattle.packed.specs.Pool.{range}
-use Rattle.packed.specs.Lists.{Indexed, Defined, Located}
+use Rattle.packed.specs.Lists.{Indexed, Located}
 use Rattle.packed.proofs.Lists.{var-is, located-symbols, located-defined}
 use Rattle.variables.specs.Numbering.{Numbered}
 use Rattle.resolve.specs.Resolve.{Supposable}

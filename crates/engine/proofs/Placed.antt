@@ -7,22 +7,21 @@ use lib.ListN.{length, getD, drop}
 use Rattle.book.specs.Book.{Expression}
 use Rattle.frames.specs.Database.{Database, database}
 use Rattle.machine.specs.declared.Refusal.the-variants.{StepOutOfRange}
-use Rattle.machine.specs.Chain.{Result, fine, stop, bind}
+use Rattle.machine.specs.Chain.{fine, stop, bind}
 use Rattle.machine.specs.Memory.{Prepared, recalls, applies, Memory}
 use Rattle.machine.specs.Prepare.{ready, atPlace, readyWith, preparePlace}
 use Rattle.machine.specs.Apply.{runPrepared, runReady}
 use Rattle.resolve.specs.Filed.{Filed}
-use Rattle.resolve.specs.Resolve.{Applicable}
 use Rattle.memory.specs.declared.table.Row.{Row}
 use Rattle.memory.specs.declared.Counts.{Counts}
 use Rattle.memory.specs.declared.Limits.{Limits}
 use Rattle.memory.specs.declared.Outcome.{Outcome}
-use Rattle.memory.specs.declared.Outcome.the-variants.{Go, Refused}
+use Rattle.memory.specs.declared.Outcome.the-variants.{Refused}
 use Rattle.memory.specs.Table.{RowAt}
 use Rattle.memory.specs.Shown.{Bench, Lent, roomOf, bench, lent, markOf, Means, PlaceShown, recalled, applied, Shown, Ends, refuses, Pushes}
 use Rattle.memory.proofs.Tables.{row-one, row-four}
 use Rattle.memory.proofs.Stored.{push-used}
-use Rattle.memory.proofs.Ending.{ends-by, push-ends}
+use Rattle.memory.proofs.Ending.{push-ends}
 use Rattle.apply.specs.Hyps.{Ranged}
 use Rattle.apply.specs.Step.{Under, Executes}
 use Rattle.apply.proofs.Processing.{At, along-at}

@@ -2,19 +2,19 @@
 use Prim.Native.Nat.{ℕ, _+_, _-_, _*_, _≤_, _<_}
 use mathlib.Core.Path.{_≡_, refl, sym, _∙_, ap}
 use mathlib.Core.Bool.{Bool, true, false}
-use mathlib.Core.List.{List, [], _∷_, _++_}
+use mathlib.Core.List.{List, _++_}
 use native.Mathlib.Omega.{arith}
-use lib.ListN.{length, take, drop}
+use lib.ListN.{length}
 use Rattle.frames.specs.Database.{Database, database}
-use Rattle.frames.specs.Facts.{_∈_, statementOf, floated, Facts}
+use Rattle.frames.specs.Facts.{statementOf, floated, Facts}
 use Rattle.frames.specs.Logic.{atMost, pick}
 use Rattle.frames.proofs.Chains.{equal-true, atMost-false}
 use Rattle.facts.proofs.GoodFacts.{good-facts}
 use Rattle.machine.specs.declared.Refusal.{Refusal}
 use Rattle.machine.specs.declared.Refusal.the-variants.{PlacesFull}
-use Rattle.machine.specs.Chain.{Result, fine, stop, bind}
+use Rattle.machine.specs.Chain.{fine, stop, bind}
 use Rattle.machine.specs.Ground.{isFloat, expressionOf}
-use Rattle.machine.specs.Memory.{Memory, recalls, addPlace, push}
+use Rattle.machine.specs.Memory.{Memory, recalls}
 use Rattle.machine.specs.Prepare.{numberedBy, ready, spend, leafOf, prepareHypothesis, addReady}
 use Rattle.machine.specs.Apply.{runPrepared, runReady}
 use Rattle.packed.specs.Lists.{Indexed, Located}
@@ -24,12 +24,11 @@ use Rattle.memory.specs.declared.Counts.{Counts}
 use Rattle.memory.specs.declared.Limits.{Limits}
 use Rattle.memory.specs.declared.Outcome.{Outcome}
 use Rattle.memory.specs.declared.Outcome.the-variants.{Go, Refused}
-use Rattle.memory.specs.Table.{withRow}
-use Rattle.memory.specs.Shown.{roomOf, bench, lent, markOf, Shown, Ends, refuses, recalled, withPool, withStack, withPlacesTable, withUsed, withPlaces, Pushes, AddsPlace}
+use Rattle.memory.specs.Shown.{roomOf, bench, lent, markOf, Shown, refuses, recalled, withPool, withUsed, withPlaces, Pushes, AddsPlace}
 use Rattle.memory.proofs.Tables.{row-new}
 use Rattle.memory.proofs.Stored.{push-used}
 use Rattle.memory.proofs.Showing.{shown-grown}
-use Rattle.memory.proofs.Ending.{ends-by, push-ends, place-ends}
+use Rattle.memory.proofs.Ending.{push-ends, place-ends}
 use Rattle.engine.specs.Hypothesis.{resultOf, Prepares}
 use Rattle.engine.specs.Ready.{LeafRow, PlacesHypothesis, PushesHypothesis}
 use Rattle.engine.specs.declared.hypothesis.Prepared.the-variants as prepared

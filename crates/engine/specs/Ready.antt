@@ -1,12 +1,11 @@
 -- What making a hypothesis ready and putting it to use does, said of the definition of a run, for every memory that the tables show.
 use Prim.Native.Nat.{ℕ, _+_, _≤_, _<_}
 use mathlib.Core.Path.{_≡_}
-use mathlib.Core.List.{List, [], _∷_}
+use mathlib.Core.List.{List}
 use lib.ListN.{length, drop}
-use Rattle.bitset.specs.Sets.{size}
 use Rattle.frames.specs.Layout.{symbolsAt}
-use Rattle.frames.specs.Database.{Database, database, statementAt}
-use Rattle.frames.specs.Facts.{_∈_, statementOf, typecode}
+use Rattle.frames.specs.Database.{database, statementAt}
+use Rattle.frames.specs.Facts.{typecode}
 use Rattle.machine.specs.Chain.{bind}
 use Rattle.machine.specs.Memory.{Memory}
 use Rattle.machine.specs.Prepare.{prepareHypothesis, addReady}

@@ -1,13 +1,12 @@
 -- Outcomes against the definition's results: refusals, and a row more on the stack or among the places.
-use Prim.Native.Nat.{ℕ, _+_, _*_, _≤_, _<_}
+use Prim.Native.Nat.{ℕ, _≤_, _<_}
 use mathlib.Core.Path.{_≡_, refl, sym, _∙_, ap}
 use mathlib.Core.Bool.{Bool, true, false}
 use mathlib.Core.List.{List}
-use native.Mathlib.Omega.{arith}
 use lib.ListN.{length}
 use Rattle.frames.specs.Logic.{atMost, pick}
 use Rattle.frames.specs.Database.{database}
-use Rattle.frames.proofs.Chains.{atMost-true, atMost-false}
+use Rattle.frames.proofs.Chains.{atMost-false}
 use Rattle.machine.specs.declared.Refusal.{Refusal}
 use Rattle.machine.specs.declared.Refusal.the-variants.{StackFull, PlacesFull}
 use Rattle.machine.specs.Chain.{Result, fine, stop, unless}
@@ -17,7 +16,7 @@ use Rattle.memory.specs.declared.Counts.{Counts}
 use Rattle.memory.specs.declared.Outcome.{Outcome}
 use Rattle.memory.specs.declared.Outcome.the-variants.{Go, Refused}
 use Rattle.memory.specs.Table.{withRow}
-use Rattle.memory.specs.Shown.{Bench, Lent, Down, Means, markOf, EntryShown, PlaceShown, Shown, Ends, goes, refuses, withStack, withPlacesTable, withDepth, withPlaces, pushed, placed, Pushes, AddsPlace}
+use Rattle.memory.specs.Shown.{Bench, Lent, Down, Means, markOf, EntryShown, PlaceShown, Shown, Ends, goes, refuses, withStack, withPlacesTable, placed, Pushes, AddsPlace}
 use Rattle.memory.proofs.Showing.{down-length, shown-pushed, shown-placed}
 
 module _ {P : Counts → Memory → Type 0} where

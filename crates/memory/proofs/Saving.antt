@@ -1,17 +1,17 @@
 -- The top of the stack saved as a place.
-use Prim.Native.Nat.{ℕ, _+_, _-_, _*_, _≤_, _<_}
-use mathlib.Core.Path.{_≡_, refl, sym, _∙_, ap}
-use mathlib.Core.List.{List, [], _∷_}
+use Prim.Native.Nat.{ℕ, _-_, _*_, _≤_}
+use mathlib.Core.Path.{_≡_, refl}
+use mathlib.Core.List.{List}
 use native.Mathlib.Omega.{arith}
 use lib.ListN.{length}
 use Rattle.frames.specs.Database.{database}
 use Rattle.machine.specs.declared.Refusal.the-variants.{ProofInvalidSave}
-use Rattle.machine.specs.Memory.{Prepared, recalls, Entry, Memory, saveTop, addPlace}
+use Rattle.machine.specs.Memory.{recalls, Entry, Memory, saveTop, addPlace}
 use Rattle.memory.specs.declared.table.Row.{Row}
 use Rattle.memory.specs.declared.Counts.{Counts}
 use Rattle.memory.specs.declared.Outcome.{Outcome}
 use Rattle.memory.specs.declared.Outcome.the-variants.{Refused}
-use Rattle.memory.specs.Table.{RowAt, withRow}
+use Rattle.memory.specs.Table.{RowAt}
 use Rattle.memory.specs.Shown.{Bench, Lent, Down, bottom, over, Means, EntryShown, recalled, Shown, Ends, refuses, withPlacesTable, unmarkedRow, AddsPlace, SavesTop}
 use Rattle.memory.proofs.Tables.{row-new, row-one, row-four}
 use Rattle.memory.proofs.Ending.{place-ends}

@@ -1,15 +1,13 @@
 -- What the tables show stays shown when more is used of them.
 use Prim.Native.Nat.{ℕ, zero, suc, _+_, _-_, _*_, _≤_, _<_}
 use mathlib.Core.Path.{_≡_, refl, sym, _∙_, ap}
-use mathlib.Core.Option.{Option}
 use mathlib.Core.List.{List, [], _∷_, _++_, reverse, reverseAux, append-assoc, Memᴰ·append-left}
 use native.Mathlib.Omega.{arith}
 use lib.ListN.{length, take, drop, length-append, take-append-drop}
 use lib.Seq.{length-take-le}
 use Rattle.book.specs.Book.{Expression}
 use Rattle.frames.specs.Database.{Database, database}
-use Rattle.frames.specs.Facts.{_∈_}
-use Rattle.machine.specs.Memory.{Room, Prepared, Entry, Memory}
+use Rattle.machine.specs.Memory.{Prepared, Entry, Memory}
 use Rattle.machine.specs.Prepare.{spend}
 use Rattle.machine.specs.Run.{firstVariables}
 use Rattle.packed.specs.Pool.{range}
@@ -18,7 +16,7 @@ use Rattle.packed.proofs.Numbering.{numbers-grown}
 use Rattle.variables.specs.Numbering.{Numbered}
 use Rattle.memory.specs.declared.table.Row.{Row}
 use Rattle.memory.specs.declared.Counts.{Counts}
-use Rattle.memory.specs.Table.{RowAt, withRow}
+use Rattle.memory.specs.Table.{withRow}
 use Rattle.memory.specs.Shown.{Bench, Lent, Down, bottom, over, Along, ends, next, Means, markOf, EntryShown, PlaceShown, recalled, applied, Shown, withPool, withStack, withPlacesTable, withUsed, withDepth, withPlaces, pushed, placed}
 use Rattle.memory.proofs.Tables.{with-row-length, row-new, row-kept}
 

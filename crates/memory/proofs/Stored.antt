@@ -12,7 +12,7 @@ use Rattle.memory.specs.declared.Counts.{Counts}
 use Rattle.memory.specs.declared.Outcome.{Outcome}
 use Rattle.memory.specs.declared.Outcome.the-variants.{Go, Refused}
 use Rattle.memory.specs.Table.{withRow}
-use Rattle.memory.specs.Shown.{withDepth, withPlaces, Pushes, AddsPlace}
+use Rattle.memory.specs.Shown.{withDepth, Pushes, AddsPlace}
 
 module _ (stack : List ℕ) (c : Counts) (limit left : ℕ) (row : Row) where
   pub push-full : limit ≤ left → Pushes stack c limit left row stack (Refused StackFull)

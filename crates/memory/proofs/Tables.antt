@@ -3,8 +3,8 @@ use Prim.Native.Nat.{ℕ, _+_, _*_, _≤_, _<_}
 use mathlib.Core.Path.{_≡_, refl, sym, _∙_, ap}
 use mathlib.Core.List.{List, [], _∷_}
 use native.Mathlib.Omega.{arith}
-use lib.ListN.{length, getD, take, drop}
-use Rattle.packed.specs.Pool.{range, written}
+use lib.ListN.{length, getD}
+use Rattle.packed.specs.Pool.{written}
 use Rattle.packed.proofs.Written.{written-length, written-before, range-written}
 use Rattle.packed.proofs.Copies.{range-at}
 use Rattle.packed.proofs.Imaging.{four-words}

@@ -20,7 +20,6 @@ use Rattle.packed.specs.Pool.{range}
 use Rattle.packed.specs.Images.{Numbers}
 use Rattle.packed.specs.Lists.{Defined}
 use Rattle.variables.specs.Numbering.{Numbered}
-use Rattle.resolve.specs.Filed.{Filed}
 use Rattle.resolve.specs.Locals.{localsOf}
 use Rattle.memory.specs.Table.{RowAt, withRow}
 use Rattle.memory.specs.declared.table.Row.{Row}

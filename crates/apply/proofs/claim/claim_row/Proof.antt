@@ -4,8 +4,6 @@ use Rattle.frames.specs.Facts.{typecode}
 use borrow.Author.Needs.{needs}
 use Rattle.apply.proofs.claim.claim_row.Statement.{statement}
 use Rattle.apply.proofs.claim.claim_row.Tie as tie
-use Rattle.frames.proofs.fields.typecode.Reads as typecode-reads
-use Rattle.packed.proofs.images.do_substitute_vars.Reads as do-substitute-vars-reads
 
 -- src/claim.rt:31:9
 typecode-requires : tie.Need-typecode-requires

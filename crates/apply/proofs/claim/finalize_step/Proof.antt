@@ -6,9 +6,6 @@ use Rattle.apply.proofs.Claims.{finalizes-full, finalizes-to}
 use borrow.Author.Needs.{needs}
 use Rattle.apply.proofs.claim.finalize_step.Statement.{statement}
 use Rattle.apply.proofs.claim.finalize_step.Tie as tie
-use Rattle.apply.proofs.claim.claim_row.Reads as claim-row-reads
-use Rattle.memory.proofs.stack.push.Reads as push-reads
-use Rattle.packed.proofs.substitute.do_substitute.Reads as do-substitute-reads
 
 -- src/claim.rt:65:11
 do-substitute-requires : tie.Need-do-substitute-requires

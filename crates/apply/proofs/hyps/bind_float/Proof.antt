@@ -3,9 +3,6 @@ use Rattle.apply.proofs.OneHyp.{binds-other, binds-same}
 use borrow.Author.Needs.{needs}
 use Rattle.apply.proofs.hyps.bind_float.Statement.{statement}
 use Rattle.apply.proofs.hyps.bind_float.Tie as tie
-use Rattle.frames.proofs.fields.typecode.Reads as typecode-reads
-use Rattle.frames.proofs.fields.variable.Reads as variable-reads
-use Rattle.packed.proofs.images.bind.Reads as bind-reads
 
 -- src/hyps.rt:52:9
 typecode-requires : tie.Need-typecode-requires

@@ -5,8 +5,6 @@ use Rattle.apply.proofs.OneHyp.{essential-other, essential-same, ranged
 use borrow.Author.Needs.{needs}
 use Rattle.apply.proofs.hyps.check_essential.Statement.{statement}
 use Rattle.apply.proofs.hyps.check_essential.Tie as tie
-use Rattle.frames.proofs.fields.typecode.Reads as typecode-reads
-use Rattle.packed.proofs.compare.do_substitute_eq.Reads as do-substitute-eq-reads
 
 -- src/hyps.rt:75:9
 typecode-requires : tie.Need-typecode-requires

@@ -3,7 +3,6 @@ use Rattle.apply.proofs.OneHyp.{clamped-row}
 use borrow.Author.Needs.{needs}
 use Rattle.apply.proofs.hyps.clamped.Statement.{statement}
 use Rattle.apply.proofs.hyps.clamped.Tie as tie
-use Rattle.apply.proofs.hyps.least.Reads as least-reads
 
 -- src/hyps.rt:34:9
 least-requires : tie.Need-least-requires

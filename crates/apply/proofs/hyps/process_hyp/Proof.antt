@@ -3,9 +3,6 @@ use Rattle.apply.proofs.OneHyp.{processes-essential, processes-float}
 use borrow.Author.Needs.{needs}
 use Rattle.apply.proofs.hyps.process_hyp.Statement.{statement}
 use Rattle.apply.proofs.hyps.process_hyp.Tie as tie
-use Rattle.apply.proofs.hyps.bind_float.Reads as bind-float-reads
-use Rattle.apply.proofs.hyps.check_essential.Reads as check-essential-reads
-use Rattle.frames.proofs.fields.kind.Reads as kind-reads
 
 -- src/hyps.rt:99:8
 kind-requires : tie.Need-kind-requires

@@ -4,9 +4,6 @@ use Rattle.apply.proofs.Processing.{seat-read}
 use borrow.Author.Needs.{needs}
 use Rattle.apply.proofs.hyps.seat_row.Statement.{statement}
 use Rattle.apply.proofs.hyps.seat_row.Tie as tie
-use Rattle.apply.proofs.hyps.clamped.Reads as clamped-reads
-use Rattle.frames.proofs.refer.entry.Reads as entry-reads
-use Rattle.memory.proofs.table.row_at.Reads as row-at-reads
 
 -- src/hyps.rt:117:13
 entry-requires : tie.Need-entry-requires

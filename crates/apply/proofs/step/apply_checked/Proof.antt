@@ -3,8 +3,6 @@ use Rattle.apply.proofs.Steps.{checked-broken, checked-kept}
 use borrow.Author.Needs.{needs}
 use Rattle.apply.proofs.step.apply_checked.Statement.{statement}
 use Rattle.apply.proofs.step.apply_checked.Tie as tie
-use Rattle.apply.proofs.claim.finalize_step.Reads as finalize-step-reads
-use Rattle.disjoint.proofs.keeps.keeps_pairs.Reads as keeps-pairs-reads
 
 -- src/step.rt:42:8
 keeps-pairs-requires : tie.Need-keeps-pairs-requires

@@ -4,8 +4,6 @@ use native.Mathlib.Omega.{arith}
 use borrow.Author.Needs.{needs}
 use Rattle.apply.proofs.step.apply_seated.Statement.{statement}
 use Rattle.apply.proofs.step.apply_seated.Tie as tie
-use Rattle.apply.proofs.hyps.process_hyps.Reads as process-hyps-reads
-use Rattle.apply.proofs.step.apply_checked.Reads as apply-checked-reads
 
 -- src/step.rt:86:11
 process-hyps-requires : tie.Need-process-hyps-requires

@@ -4,10 +4,6 @@ use native.Mathlib.Omega.{arith}
 use borrow.Author.Needs.{needs}
 use Rattle.apply.proofs.step.execute_step.Statement.{statement}
 use Rattle.apply.proofs.step.execute_step.Tie as tie
-use Rattle.apply.proofs.step.apply_seated.Reads as apply-seated-reads
-use Rattle.frames.proofs.fields.hypotheses.Reads as hypotheses-reads
-use Rattle.frames.proofs.fields.statement_offset.Reads as statement-offset-reads
-use Rattle.seats.proofs.seat_entries.Reads as seat-entries-reads
 
 -- src/step.rt:144:9
 statement-offset-requires : tie.Need-statement-offset-requires

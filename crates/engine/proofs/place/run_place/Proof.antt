@@ -4,10 +4,6 @@ use native.Mathlib.Omega.{arith}
 use borrow.Author.Needs.{needs}
 use Rattle.engine.proofs.place.run_place.Statement.{statement}
 use Rattle.engine.proofs.place.run_place.Tie as tie
-use Rattle.apply.proofs.step.execute_step.Reads as execute-step-reads
-use Rattle.engine.proofs.place.marked.Reads as marked-reads
-use Rattle.memory.proofs.stack.push.Reads as push-reads
-use Rattle.memory.proofs.table.row_at.Reads as row-at-reads
 
 -- src/place.rt:61:9
 returns : tie.Need-returns

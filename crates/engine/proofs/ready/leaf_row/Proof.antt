@@ -4,8 +4,6 @@ use mathlib.Core.Path.{refl}
 use borrow.Author.Needs.{needs}
 use Rattle.engine.proofs.ready.leaf_row.Statement.{statement}
 use Rattle.engine.proofs.ready.leaf_row.Tie as tie
-use Rattle.engine.proofs.raw_set.raw_set.Reads as raw-set-reads
-use Rattle.frames.proofs.fields.typecode.Reads as typecode-reads
 
 -- src/ready.rt:30:9
 typecode-requires : tie.Need-typecode-requires

@@ -6,8 +6,6 @@ use mathlib.Core.Path.{refl, ap}
 use borrow.Author.Needs.{needs}
 use Rattle.engine.proofs.roster.place_frame.Statement.{statement}
 use Rattle.engine.proofs.roster.place_frame.Tie as tie
-use Rattle.bitset.proofs.Bitset.new.Reads as new-reads
-use Rattle.memory.proofs.stack.add_place.Reads as add-place-reads
 
 -- src/roster.rt:32:15
 new-requires : tie.Need-new-requires

@@ -4,10 +4,6 @@ use Rattle.engine.proofs.Rostering.{Preloading, preload-done, preload-m
 use borrow.Author.Needs.{needs}
 use Rattle.engine.proofs.roster.preload.Statement.{statement}
 use Rattle.engine.proofs.roster.preload.Tie as tie
-use Rattle.engine.proofs.ready.place_hypothesis.Reads as place-hypothesis-reads
-use Rattle.frames.proofs.fields.hypotheses.Reads as hypotheses-reads
-use Rattle.frames.proofs.fields.hypothesis.Reads as hypothesis-reads
-use Rattle.frames.proofs.fields.statement_offset.Reads as statement-offset-reads
 
 abbrev Inv-loop : tie.InvT-loop
 Inv-loop file symbols statements at numbers₀ pool₀ places₀ limits n now₀ i₀ numbers pool places now i = Preloading file symbols statements at limits numbers₀ pool₀ places₀ now₀ i numbers pool places now

@@ -4,10 +4,6 @@ use Rattle.engine.proofs.Rostering.{roster-frame, roster-hypothesis, ro
 use borrow.Author.Needs.{needs}
 use Rattle.engine.proofs.roster.prepare_roster.Statement.{statement}
 use Rattle.engine.proofs.roster.prepare_roster.Tie as tie
-use Rattle.engine.proofs.ready.place_hypothesis.Reads as place-hypothesis-reads
-use Rattle.engine.proofs.roster.place_frame.Reads as place-frame-reads
-use Rattle.frames.proofs.fields.statement_offset.Reads as statement-offset-reads
-use Rattle.resolve.proofs.prepare_label.Reads as prepare-label-reads
 
 -- src/roster.rt:54:11
 prepare-label-requires : tie.Need-prepare-label-requires

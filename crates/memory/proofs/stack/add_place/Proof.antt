@@ -4,7 +4,6 @@ use native.Mathlib.Omega.{arith}
 use borrow.Author.Needs.{needs}
 use Rattle.memory.proofs.stack.add_place.Statement.{statement}
 use Rattle.memory.proofs.stack.add_place.Tie as tie
-use Rattle.memory.proofs.table.put_row.Reads as put-row-reads
 
 -- src/stack.rt:37:9
 returns : tie.Need-returns

@@ -4,9 +4,6 @@ use native.Mathlib.Omega.{arith}
 use borrow.Author.Needs.{needs}
 use Rattle.memory.proofs.stack.save_top.Statement.{statement}
 use Rattle.memory.proofs.stack.save_top.Tie as tie
-use Rattle.memory.proofs.stack.add_place.Reads as add-place-reads
-use Rattle.memory.proofs.stack.saved.Reads as saved-reads
-use Rattle.memory.proofs.table.row_at.Reads as row-at-reads
 
 -- src/stack.rt:74:9
 returns : tie.Need-returns

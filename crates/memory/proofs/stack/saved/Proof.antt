@@ -1,6 +1,5 @@
 -- `memory::stack::saved` meets its contract.
 use mathlib.Core.Path.{refl}
-use Rattle.memory.specs.Shown.{unmarkedRow}
 use Rattle.memory.proofs.stack.saved.Statement.{statement}
 use Rattle.memory.proofs.stack.saved.Tie as tie
 

@@ -3,7 +3,6 @@ use Rattle.memory.specs.Table.{rowWords, withRow}
 use borrow.Author.Needs.{needs}
 use Rattle.memory.proofs.table.put_row.Statement.{statement}
 use Rattle.memory.proofs.table.put_row.Tie as tie
-use Rattle.memory.proofs.table.put_words.Reads as put-words-reads
 
 -- src/table.rt:91:9
 element-copy-out-t14 : tie.Need-element-copy-out-t14

@@ -3,8 +3,6 @@ use Rattle.memory.proofs.Tables.{row-read}
 use borrow.Author.Needs.{needs}
 use Rattle.memory.proofs.table.row_at.Statement.{statement}
 use Rattle.memory.proofs.table.row_at.Tie as tie
-use Rattle.memory.proofs.table.set_at.Reads as set-at-reads
-use Rattle.memory.proofs.table.word_at.Reads as word-at-reads
 
 -- src/table.rt:47:13
 mul-i : tie.Need-mul-i

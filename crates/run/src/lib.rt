@@ -1,0 +1,29 @@
+// A port of parts of src/verify.rs of metamath-rs 0.3.9 (verify_proof), changed (see NOTICE).
+// The run of a proof's text over lent tables, byte by byte.
+pub mod bytes;
+pub mod letters;
+pub mod token;
+
+use machine::Refusal;
+use memory::Counts;
+
+// How the text is read on: no token yet; a normal proof; in the roster; in the letters, with k and whether `Z` may come.
+pub enum Mode {
+    Beginning,
+    Normal,
+    Roster,
+    Letters { k: usize, can_save: bool },
+}
+
+// After a letter or a token: the run goes on, or it is refused after so many steps.
+pub enum Read {
+    Go {
+        mode: Mode,
+        counts: Counts,
+        steps: usize,
+    },
+    Stop {
+        why: Refusal,
+        steps: usize,
+    },
+}
