@@ -7,13 +7,16 @@ at the end: the names one after another, the high bit set on each name's last by
 A line tries statement p. The i-th hypothesis that p lists, where it is a $f, has its variable replaced by the symbols of
 statement (p / 2 + i / 3) mod p, whose set is {i, p mod 256, 255 - i mod 64}; every other variable is replaced by nothing. The line is
 
-    LABEL USED SUM  LENGTH SUM  EQ OTHERS RAWS  VARS SUM  FULL TURNED
+    LABEL USED SUM  LENGTH SUM  EQ OTHERS RAWS  COPIED SUM FULL TURNED  VARS SUM  FULL TURNED
 
 USED SUM     the bytes of the images together, and their checksum
 LENGTH SUM   the bytes of p's symbols as substituted, and their checksum
 EQ           1: they are p's symbols as substituted
 OTHERS       of how many statements of the file they are the symbols as substituted
 RAWS         how many statements of the file have p's symbols, not substituted
+COPIED SUM   the bytes of a copy of p's symbols as substituted, behind them, and their checksum
+FULL         1: with room for one byte less there is no room for the copy
+TURNED       1: with the range that is copied turned round, the call is refused
 VARS SUM     how many members the images in p's symbols have together, and the sum of these
 FULL         1: with room for one byte less there is no room
 TURNED       1: with the image of the first listed hypothesis's variable turned round, the call is refused
@@ -77,7 +80,8 @@ def line(symbols, statements, p):
     members = set().union(*(sets.get(s, set()) for s in own if symbols[s][0]))
     turned = bool(hyps) and statements[hyps[0]][0] == 2 and statements[hyps[0]][3][1] in own
     numbers = [len(written), checksum(written), len(whole), checksum(whole), 1, sum(substituted(t) == result for t in texts),
-               sum(t == own for t in texts), len(members), sum(members), int(len(whole) > 0), int(turned)]
+               sum(t == own for t in texts), len(whole), checksum(whole), int(len(whole) > 0), int(len(whole) > 0),
+               len(members), sum(members), int(len(whole) > 0), int(turned)]
     return label.decode() + ''.join(f' {n}' for n in numbers) + '\n'
 
 

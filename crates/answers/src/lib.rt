@@ -2,7 +2,7 @@
 ghost use mathlib.Core.Path.{_≡_};
 ghost use Prim.Native.Nat.{_<_};
 ghost use Rattle.machine.specs.Answer.{refusalNumber};
-ghost use Rattle.answers.specs.Packed.{packedAnswer};
+ghost use Rattle.answers.specs.Packed.{packedAnswer, numberIn, placeIn, stepsIn};
 use machine::Refusal;
 
 // The paper's number of a refusal of a proof. (That of a file is `frames::number`.)
@@ -46,4 +46,25 @@ pub fn pack(number: usize, place: usize, steps: usize) -> u64
     ensures { λ r. ⌜ r ≡ packedAnswer number place steps ⌝ }
 {
     number as u64 + 256 * (place as u64) + 4294967296 * (steps as u64)
+}
+
+// The number of a packed answer.
+pub fn number_in(word: u64) -> usize
+    ensures { λ r. ⌜ r ≡ numberIn word ⌝ }
+{
+    (word % 256) as usize
+}
+
+// The place of a packed answer.
+pub fn place_in(word: u64) -> usize
+    ensures { λ r. ⌜ r ≡ placeIn word ⌝ }
+{
+    (word / 256 % 16777216) as usize
+}
+
+// The steps of a packed answer.
+pub fn steps_in(word: u64) -> usize
+    ensures { λ r. ⌜ r ≡ stepsIn word ⌝ }
+{
+    (word / 4294967296) as usize
 }

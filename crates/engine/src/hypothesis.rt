@@ -22,7 +22,7 @@ fn map_float(file: &[u8], at: u32, numbers: &mut [u32], count: u32) -> u32
 {
     if fields::kind(file, at) == 2 {
         let v = fields::variable(file, at);
-        return map_var(numbers, count, v.0);
+        return map_var(numbers, count, v);
     }
     count
 }

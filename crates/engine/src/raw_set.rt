@@ -6,17 +6,18 @@ ghost use Rattle.frames.specs.Layout.{symbolsAt};
 ghost use Rattle.engine.specs.RawSet.{Marks, RawGathered};
 use bitset::Bitset;
 use frames::fields::class;
+use frames::numbers::SymbolNo;
 use frames::read::u16_at;
 use frames::record::symbol_count;
 use frames::record::symbols_from;
 use frames::refer::entry;
 
 // The set with the number of symbol s, if it is a variable that has one.
-fn mark_symbol(file: &[u8], symbols: &[u32], numbers: &[u32], all: Bitset, s: usize) -> Bitset
-    ensures { λ r. ⌜ Marks (now (file .entry)) (now (symbols .entry)) (now (numbers .entry)) s (all .words) (r .words) ⌝ }
+fn mark_symbol(file: &[u8], symbols: &[u32], numbers: &[u32], all: Bitset, s: SymbolNo) -> Bitset
+    ensures { λ r. ⌜ Marks (now (file .entry)) (now (symbols .entry)) (now (numbers .entry)) (s .0) (all .words) (r .words) ⌝ }
 {
-    if class(file, entry(symbols, s)) == 1 {
-        let n = entry(numbers, s);
+    if class(file, entry(symbols, s.0)) == 1 {
+        let n = entry(numbers, s.0);
         if 0 < n {
             return all.set_bit(n as usize - 1);
         }
@@ -33,7 +34,7 @@ pub fn raw_set(file: &[u8], symbols: &[u32], numbers: &[u32], at: u32) -> Bitset
     let mut all = Bitset::new();
     let mut i = 1;
     while i < n {
-        let s = u16_at(file, base + 2 * i);
+        let s = SymbolNo(u16_at(file, base + 2 * i));
         all = mark_symbol(file, symbols, numbers, all, s);
         i += 1;
     }

@@ -4,6 +4,7 @@ ghost use Prim.Native.Nat.{_*_, _≤_};
 ghost use lib.ListN.{length};
 ghost use Rattle.engine.specs.Ready.{Bounded};
 ghost use Rattle.engine.specs.Roster.{PlacesFrame, PreparesRoster, Preloads};
+ghost use Rattle.label_index.specs.Labelled.{Labelled};
 use crate::ready::place_hypothesis;
 use bitset::Bitset;
 use frames::fields;
@@ -39,6 +40,7 @@ pub fn prepare_roster(
     file: &[u8],
     symbols: &[u32],
     statements: &[u32],
+    labels: &[u32],
     p: StatementNo,
     label: &[u8],
     numbers: &mut [u32],
@@ -47,11 +49,12 @@ pub fn prepare_roster(
     c: Counts,
     limits: Limits,
 ) -> Outcome
+    requires { ⌜ Labelled (now file) (now statements) (now labels) ⌝ }
     requires { ⌜ Bounded limits c × (limits .pool ≤ length (now pool)) ⌝ }
     requires places { ⌜ (10 * limits .places ≤ length (now places)) × (limits .places ≤ 4096) ⌝ }
     ensures { λ r. ⌜ PreparesRoster (now (file .entry)) (now (symbols .entry)) (now (statements .entry)) (p .0) (now (label .entry)) (now (numbers .entry)) (now (pool .entry)) (now (places .entry)) c limits (now (numbers .exit)) (now (pool .exit)) (now (places .exit)) r ⌝ }
 {
-    match prepare_label(file, statements, p, label) {
+    match prepare_label(file, statements, labels, p, label) {
         PreparedStep::Hypothesis(h) => {
             let at = fields::statement_offset(statements, h);
             place_hypothesis(file, symbols, at, numbers, pool, places, c, limits)

@@ -1,5 +1,6 @@
 -- The laws that the proofs of several functions cite.
 pub mod Parts
+pub mod Naming
 pub mod Chains
 pub mod Loops
 pub mod Found

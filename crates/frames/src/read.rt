@@ -1,4 +1,5 @@
-// Total readers of the file's bytes: a byte past the end reads as 0. Numbers ask only that their offset is far from the end of `usize`.
+// Total readers of the file's bytes: a byte past the end reads as 0. Numbers ask only that their offset is far from the end of `usize`;
+// where all their bytes are in the file they are read by one test of the length.
 ghost use mathlib.Core.Path.{_≡_};
 ghost use Prim.Native.Nat.{_<_, _^_, _+_};
 ghost use lib.ListN.{take, drop};
@@ -20,6 +21,11 @@ pub fn u16_at(file: &[u8], i: usize) -> usize
     requires { ⌜ i < 2 ^ 61 ⌝ }
     ensures { λ r. ⌜ (r ≡ u16 (now (file .entry)) i) × (r < 65536) ⌝ }
 {
+    if i + 1 < file.len() {
+        let low = wide(file[i]);
+        let high = wide(file[i + 1]);
+        return low + 256 * high;
+    }
     byte_at(file, i) + 256 * byte_at(file, i + 1)
 }
 
@@ -27,6 +33,13 @@ pub fn u32_at(file: &[u8], i: usize) -> usize
     requires { ⌜ i < 2 ^ 60 ⌝ }
     ensures { λ r. ⌜ (r ≡ u32 (now (file .entry)) i) × (r < 4294967296) ⌝ }
 {
+    if i + 3 < file.len() {
+        let first = wide(file[i]);
+        let second = wide(file[i + 1]);
+        let third = wide(file[i + 2]);
+        let fourth = wide(file[i + 3]);
+        return first + 256 * second + 65536 * (third + 256 * fourth);
+    }
     u16_at(file, i) + 65536 * u16_at(file, i + 2)
 }
 

@@ -151,9 +151,25 @@ pub fn rest_size(file: &[u8], at: u32) -> usize
     0
 }
 
+// The name of a symbol, for which no lists are counted.
+fn symbol_name(file: &[u8], at: u32) -> &[u8]
+    requires { ⌜ kindAt (now file) at ≡ 1 ⌝ }
+    ensures { λ r. ⌜ now r ≡ restAt (now (file .entry)) at ⌝ }
+{
+    let from = at as usize + 7;
+    let size = length_at(file, at);
+    if 3 <= size {
+        return part(file, from, size - 3);
+    }
+    part(file, from, 0)
+}
+
 pub fn rest_at(file: &[u8], at: u32) -> &[u8]
     ensures { λ r. ⌜ now r ≡ restAt (now (file .entry)) at ⌝ }
 {
+    if kind_at(file, at) == 1 {
+        return symbol_name(file, at);
+    }
     let from = rest_from(file, at);
     let size = rest_size(file, at);
     part(file, from, size)

@@ -7,7 +7,7 @@ use lib.ListN.{length, take, drop}
 use Rattle.frames.proofs.Chains.{pick-first, pick-second, below-yes, below-no}
 use Rattle.frames.proofs.Tells.{true-not-false}
 use Rattle.packed.specs.Packing.{ended}
-use Rattle.packed.specs.Pool.{written, grown, Adds}
+use Rattle.packed.specs.Pool.{written, grown, Adds, Untouched}
 use Rattle.packed.specs.declared.pool.Grown.{Grown}
 use Rattle.packed.specs.declared.pool.Grown.the-variants.{To, Full}
 use Rattle.packed.proofs.Written.{written-length, written-take, written-past}
@@ -54,6 +54,13 @@ adds-to {bytes} {pool} {pool′} {used} e l m w =
       past = past-written bytes pool pool′ used _ _ w e l m;
       holds = λ b. w;
     }
+
+-- where there is no room the pool is as it was, and where there is the answer is not `Full`
+pub untouched-full : (pool : List ℕ) {r : Grown} → Untouched pool pool r
+untouched-full pool = record { left = λ e. refl }
+
+pub untouched-to : (pool pool′ : List ℕ) (n : ℕ) → Untouched pool pool′ (To n)
+untouched-to pool pool′ n = record { left = λ e. let z : _≡_ {A = ℕ} 0 1 = cc in absurd (omega arith) }
 
 -- the bytes by another name
 pub adds-same : {bytes bytes′ pool pool′ : List ℕ} {used limit : ℕ} {r : Grown} → bytes ≡ bytes′ → Adds bytes used limit pool pool′ r

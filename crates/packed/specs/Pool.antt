@@ -33,6 +33,10 @@ pub record Adds (bytes : List ℕ) (used limit : ℕ) (pool pool′ : List ℕ) 
   pub past : drop limit pool′ ≡ drop limit pool
   pub holds : below limit (used + length bytes) ≡ false → pool′ ≡ written bytes used pool
 
+-- where there is no room nothing was written. (This holds of one text; of several, those that found room may stand in the pool)
+pub record Untouched (pool pool′ : List ℕ) (answer : Grown) : Type 0 where
+  pub left : answer ≡ Full → pool′ ≡ pool
+
 -- symbol s is a variable
 unfoldable pub isVar : List ℕ → List ℕ → ℕ → Bool
 isVar f syms s = equal (classAt f (getD syms s 0)) 1

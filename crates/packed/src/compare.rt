@@ -11,6 +11,7 @@ ghost use Rattle.packed.specs.Pool.{range, piece, spelled, joined, Image
 ghost use Rattle.packed.specs.Compare.{met};
 ghost use Rattle.packed.specs.Lists.{Compares, ComparesRaw};
 use frames::fields;
+use frames::numbers::SymbolNo;
 use frames::read::u16_at;
 use frames::record::symbol_count;
 use frames::record::symbols_from;
@@ -100,18 +101,18 @@ fn meet_piece(
     symbols: &[u32],
     froms: &[u32],
     tos: &[u32],
-    s: usize,
+    s: SymbolNo,
     pool: &[u8],
     at: usize,
     to: usize,
 ) -> Met
-    requires { ⌜ ((at ≤ to) × (to ≤ length (now pool))) × Imaged (now file) (now symbols) (now froms) (now tos) (length (now pool)) (s ∷ []) ⌝ }
-    ensures { λ r. ⌜ r ≡ met (piece (now (file .entry)) (now (symbols .entry)) (now (froms .entry)) (now (tos .entry)) (now (pool .entry)) s) at to (now (pool .entry)) ⌝ }
+    requires { ⌜ ((at ≤ to) × (to ≤ length (now pool))) × Imaged (now file) (now symbols) (now froms) (now tos) (length (now pool)) (s .0 ∷ []) ⌝ }
+    ensures { λ r. ⌜ r ≡ met (piece (now (file .entry)) (now (symbols .entry)) (now (froms .entry)) (now (tos .entry)) (now (pool .entry)) (s .0)) at to (now (pool .entry)) ⌝ }
 {
-    let o = entry(symbols, s);
+    let o = entry(symbols, s.0);
     if fields::class(file, o) == 1 {
-        let from = entry(froms, s) as usize;
-        let end = entry(tos, s) as usize;
+        let from = entry(froms, s.0) as usize;
+        let end = entry(tos, s.0) as usize;
         return meet_range(pool, at, to, from, end);
     }
     meet_name(pool, at, to, fields::name(file, o))
@@ -138,7 +139,7 @@ pub fn do_substitute_eq(
     let mut c = from;
     let mut i = 1;
     while i < n {
-        let s = u16_at(file, base + 2 * i);
+        let s = SymbolNo(u16_at(file, base + 2 * i));
         match meet_piece(file, symbols, froms, tos, s, pool, c, to) {
             Met::To(next) => c = next,
             Met::Differs => return false,
@@ -159,8 +160,8 @@ pub fn raw_eq(file: &[u8], symbols: &[u32], at: u32, pool: &[u8], from: usize, t
     let mut d = from;
     let mut j = 1;
     while j < n {
-        let s = u16_at(file, base + 2 * j);
-        let name = fields::name(file, entry(symbols, s));
+        let s = SymbolNo(u16_at(file, base + 2 * j));
+        let name = fields::name(file, entry(symbols, s.0));
         match meet_name(pool, d, to, name) {
             Met::To(next) => d = next,
             Met::Differs => return false,

@@ -4,7 +4,7 @@ ghost use mathlib.Core.Path.{_≡_};
 ghost use Prim.Native.Nat.{_+_, _-_, _≤_};
 ghost use lib.ListN.{length};
 ghost use Rattle.packed.specs.Packing.{ended};
-ghost use Rattle.packed.specs.Pool.{written, range, Adds};
+ghost use Rattle.packed.specs.Pool.{written, range, Adds, Untouched};
 
 // How far the pool is used after bytes were added, or that there is no room for them.
 pub enum Grown {
@@ -53,7 +53,8 @@ fn copy_within(pool: &mut [u8], from: usize, to: usize, at: usize)
 // Adds a name to the pool.
 pub fn add_name(pool: &mut [u8], used: usize, limit: usize, name: &[u8]) -> Grown
     requires { ⌜ (used ≤ limit) × (limit ≤ length (now pool)) ⌝ }
-    ensures { λ r. ⌜ Adds (ended (now (name .entry))) used limit (now (pool .entry)) (now (pool .exit)) r ⌝ }
+    ensures adds { λ r. ⌜ Adds (ended (now (name .entry))) used limit (now (pool .entry)) (now (pool .exit)) r ⌝ }
+    ensures full { λ r. ⌜ Untouched (now (pool .entry)) (now (pool .exit)) r ⌝ }
 {
     let n = name.len();
     if limit - used < n {
@@ -66,7 +67,8 @@ pub fn add_name(pool: &mut [u8], used: usize, limit: usize, name: &[u8]) -> Grow
 // Adds a copy of the bytes from `from` up to `to`, which are in use, to the pool.
 pub fn add_range(pool: &mut [u8], used: usize, limit: usize, from: usize, to: usize) -> Grown
     requires { ⌜ ((from ≤ to) × (to ≤ used)) × ((used ≤ limit) × (limit ≤ length (now pool))) ⌝ }
-    ensures { λ r. ⌜ Adds (range from to (now (pool .entry))) used limit (now (pool .entry)) (now (pool .exit)) r ⌝ }
+    ensures adds { λ r. ⌜ Adds (range from to (now (pool .entry))) used limit (now (pool .entry)) (now (pool .exit)) r ⌝ }
+    ensures full { λ r. ⌜ Untouched (now (pool .entry)) (now (pool .exit)) r ⌝ }
 {
     let size = to - from;
     if limit - used < size {

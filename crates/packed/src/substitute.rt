@@ -12,6 +12,7 @@ use crate::pool::Grown;
 use crate::pool::add_name;
 use crate::pool::add_range;
 use frames::fields;
+use frames::numbers::SymbolNo;
 use frames::read::u16_at;
 use frames::record::symbol_count;
 use frames::record::symbols_from;
@@ -21,15 +22,15 @@ use frames::refer::entry;
 fn add_symbol(
     file: &[u8],
     symbols: &[u32],
-    s: usize,
+    s: SymbolNo,
     pool: &mut [u8],
     used: usize,
     limit: usize,
 ) -> Grown
     requires { ⌜ (used ≤ limit) × (limit ≤ length (now pool)) ⌝ }
-    ensures { λ r. ⌜ Adds (spelled (now (file .entry)) (now (symbols .entry)) s) used limit (now (pool .entry)) (now (pool .exit)) r ⌝ }
+    ensures { λ r. ⌜ Adds (spelled (now (file .entry)) (now (symbols .entry)) (s .0)) used limit (now (pool .entry)) (now (pool .exit)) r ⌝ }
 {
-    let name = fields::name(file, entry(symbols, s));
+    let name = fields::name(file, entry(symbols, s.0));
     add_name(pool, used, limit, name)
 }
 
@@ -39,18 +40,18 @@ fn add_piece(
     symbols: &[u32],
     froms: &[u32],
     tos: &[u32],
-    s: usize,
+    s: SymbolNo,
     pool: &mut [u8],
     used: usize,
     limit: usize,
 ) -> Grown
     requires { ⌜ (used ≤ limit) × (limit ≤ length (now pool)) ⌝ }
-    requires imaged { ⌜ Imaged (now file) (now symbols) (now froms) (now tos) used (s ∷ []) ⌝ }
-    ensures { λ r. ⌜ Adds (piece (now (file .entry)) (now (symbols .entry)) (now (froms .entry)) (now (tos .entry)) (now (pool .entry)) s) used limit (now (pool .entry)) (now (pool .exit)) r ⌝ }
+    requires imaged { ⌜ Imaged (now file) (now symbols) (now froms) (now tos) used (s .0 ∷ []) ⌝ }
+    ensures { λ r. ⌜ Adds (piece (now (file .entry)) (now (symbols .entry)) (now (froms .entry)) (now (tos .entry)) (now (pool .entry)) (s .0)) used limit (now (pool .entry)) (now (pool .exit)) r ⌝ }
 {
-    if fields::class(file, entry(symbols, s)) == 1 {
-        let from = entry(froms, s) as usize;
-        let to = entry(tos, s) as usize;
+    if fields::class(file, entry(symbols, s.0)) == 1 {
+        let from = entry(froms, s.0) as usize;
+        let to = entry(tos, s.0) as usize;
         return add_range(pool, used, limit, from, to);
     }
     add_symbol(file, symbols, s, pool, used, limit)
@@ -78,7 +79,7 @@ pub fn do_substitute(
     let mut end = used;
     let mut i = 1;
     while i < n {
-        let s = u16_at(file, base + 2 * i);
+        let s = SymbolNo(u16_at(file, base + 2 * i));
         match add_piece(file, symbols, froms, tos, s, pool, end, limit) {
             Grown::To(e) => {
                 end = e;
@@ -110,7 +111,7 @@ pub fn do_substitute_raw(
     let mut end = used;
     let mut i = 1;
     while i < n {
-        let s = u16_at(file, base + 2 * i);
+        let s = SymbolNo(u16_at(file, base + 2 * i));
         match add_symbol(file, symbols, s, pool, end, limit) {
             Grown::To(e) => {
                 end = e;

@@ -7,34 +7,54 @@ use lib.ListN.{length}
 use Rattle.frames.specs.Logic.{both, same}
 use Rattle.frames.proofs.Chains.{pick-first, pick-second, atMost-yes, atMost-no}
 use Rattle.frames.proofs.Tells.{true-not-false}
-use Rattle.packed.specs.Pool.{range, grown, Adds}
+use Rattle.packed.specs.Pool.{range, grown, Adds, Untouched}
 use Rattle.packed.specs.declared.pool.Grown.{Grown}
-use Rattle.packed_c.specs.Answers.{refused, numberOf, truthOf, roomed, lies, compared, Answered}
+use Rattle.packed.proofs.Adding.{adds-same}
+use Rattle.packed_c.specs.Answers.{refused, numberOf, truthOf, roomed, lies, compared, Answered, Says, Copies}
+
+-- what is said of lists of symbols: nothing where the ranges are wrong, and else what is said of the value
+module _ {A : Type 0} {right : Bool} {number : A → ℕ} {said : A → Type 0} {answer : ℕ} where
+  says-refused : right ≡ false → Says right number said answer
+  says-refused e = record { says = λ t. absurd (true-not-false t e) }
+
+  says-told : (x : A) → answer ≡ number x → said x → Says right number said answer
+  says-told x e s = record { says = λ t. (x, (e, s)) }
 
 -- the ranges are wrong
-pub answered-refused : {right : Bool} (bytes : List ℕ) (used limit : ℕ) (pool : List ℕ) → right ≡ false
-    → Answered right bytes used limit pool pool refused
-answered-refused bytes used limit pool e =
-    record { answers = pick-second _ e refl; adds = λ t. absurd (true-not-false t e); leaves = λ f. refl }
+pub answered-refused : {right : Bool} {said : Grown → Type 0} (bytes : List ℕ) (used limit : ℕ) (pool : List ℕ) → right ≡ false
+    → Answered right bytes used limit pool pool refused × Says right numberOf said refused
+answered-refused bytes used limit pool e = (
+  record { answers = pick-second _ e refl; adds = λ t. absurd (true-not-false t e); leaves = λ f. refl },
+  says-refused e,
+)
 
 -- they are right, and the bytes were added
-pub answered-added : {right : Bool} {bytes : List ℕ} {used limit : ℕ} {pool pool′ : List ℕ} {g : Grown} {n : ℕ} → right ≡ true
-    → Adds bytes used limit pool pool′ g → n ≡ numberOf g → Answered right bytes used limit pool pool′ n
-answered-added {bytes = bytes} {used} {limit} {pool} {pool′} e a m =
-    record {
-      answers = pick-first _ e (m ∙ ap numberOf (a .answers));
-      adds = λ t. rw (a .answers) at a;
-      leaves = λ f. absurd (true-not-false e f);
-    }
+pub answered-added : {right : Bool} {said : Grown → Type 0} {bytes : List ℕ} {used limit : ℕ} {pool pool′ : List ℕ} {g : Grown} {n : ℕ}
+    → right ≡ true → Adds bytes used limit pool pool′ g → said g → n ≡ numberOf g
+    → Answered right bytes used limit pool pool′ n × Says right numberOf said n
+answered-added {bytes = bytes} {used} {limit} {pool} {pool′} {g} e a s m = (
+  record {
+    answers = pick-first _ e (m ∙ ap numberOf (a .answers));
+    adds = λ t. rw (a .answers) at a;
+    leaves = λ f. absurd (true-not-false e f);
+  },
+  says-told g m s,
+)
 
-pub compared-refused : {right : Bool} (from to : ℕ) (pool text : List ℕ) → right ≡ false → refused ≡ compared right from to pool text
+pub compared-refused : {right : Bool} {said : Bool → Type 0} (from to : ℕ) (pool text : List ℕ) → right ≡ false
+    → (refused ≡ compared right from to pool text) × Says right truthOf said refused
 unfolding compared
-compared-refused from to pool text e = pick-second _ e refl
+compared-refused from to pool text e = (pick-second _ e refl, says-refused e)
 
-pub compared-told : {right t : Bool} {n : ℕ} (from to : ℕ) (pool text : List ℕ) → right ≡ true → t ≡ same (range from to pool) text
-    → n ≡ truthOf t → n ≡ compared right from to pool text
+pub compared-told : {right t : Bool} {said : Bool → Type 0} {n : ℕ} (from to : ℕ) (pool text : List ℕ) → right ≡ true
+    → t ≡ same (range from to pool) text → said t → n ≡ truthOf t → (n ≡ compared right from to pool text) × Says right truthOf said n
 unfolding compared
-compared-told from to pool text e s m = pick-first _ e (m ∙ ap truthOf s)
+compared-told {t = t} from to pool text e s l m = (pick-first _ e (m ∙ ap truthOf s), says-told t m l)
+
+-- a copy of a range that spells a list adds the list's packed text
+pub copies : {from to used limit : ℕ} {pool pool′ : List ℕ} {g : Grown} → Adds (range from to pool) used limit pool pool′ g
+    → Untouched pool pool′ g → Copies from to used limit pool pool′ g
+copies a u = record { adds = λ db xs e. adds-same e a; full = u }
 
 -- two tests at once
 pub both-yes : {t u : Bool} → t ≡ true → u ≡ true → both t u ≡ true

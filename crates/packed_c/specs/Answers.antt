@@ -7,7 +7,9 @@ use mathlib.Core.List.{List}
 use lib.ListN.{length, getD, drop}
 use Rattle.frames.specs.Logic.{atMost, pick, either, both, no, all, same}
 use Rattle.frames.specs.Layout.{symbolsAt}
-use Rattle.packed.specs.Pool.{range, grown, isVar, spelled, piece, joined, Adds}
+use Rattle.frames.specs.Database.{Database}
+use Rattle.packed.specs.Packing.{packed}
+use Rattle.packed.specs.Pool.{range, grown, isVar, spelled, piece, joined, Adds, Untouched}
 use Rattle.packed.specs.declared.pool.Grown.{Grown}
 use Rattle.packed.specs.declared.pool.Grown.the-variants.{To, Full}
 
@@ -61,3 +63,12 @@ pub record Answered (right : Bool) (bytes : List ℕ) (used limit : ℕ) (pool p
 -- wrong it is refused
 unfoldable pub compared : Bool → ℕ → ℕ → List ℕ → List ℕ → ℕ
 compared right from to pool text = pick right (truthOf (same (range from to pool) text)) refused
+
+-- what an answer says of lists of symbols: where its ranges are right it is the number of a value of which this is said
+pub record Says {A : Type 0} (right : Bool) (number : A → ℕ) (said : A → Type 0) (answer : ℕ) : Type 0 where
+  pub says : right ≡ true → (x : A) × ((answer ≡ number x) × said x)
+
+-- what is added is the packed text of every list that the range spells
+pub record Copies (from to used limit : ℕ) (pool pool′ : List ℕ) (answer : Grown) : Type 0 where
+  pub adds : (db : Database) (xs : List ℕ) → range from to pool ≡ packed db xs → Adds (packed db xs) used limit pool pool′ answer
+  pub full : Untouched pool pool′ answer

@@ -11,8 +11,10 @@ ghost use mathlib.Core.Path.{_≡_};
 ghost use lib.ListN.{length};
 ghost use Rattle.frames.specs.Logic.{both};
 ghost use Rattle.packed.specs.Pool.{range};
-ghost use Rattle.packed_c.specs.Answers.{numberOf, truthOf, spelling, substitution, imageWithin, within, roomed, lies, Answered, compared};
+ghost use Rattle.packed.specs.Lists.{Substitutes, Spells, Compares, ComparesRaw};
+ghost use Rattle.packed_c.specs.Answers.{numberOf, truthOf, spelling, substitution, imageWithin, within, roomed, lies, Answered, compared, Says, Copies};
 use frames::fields;
+use frames::numbers::SymbolNo;
 use frames::read::u16_at;
 use frames::record::symbol_count;
 use frames::record::symbols_from;
@@ -34,14 +36,14 @@ fn image_within(
     symbols: &[u32],
     froms: &[u32],
     tos: &[u32],
-    s: usize,
+    s: SymbolNo,
     used: usize,
 ) -> bool
-    ensures { λ r. ⌜ r ≡ imageWithin (now (file .entry)) (now (symbols .entry)) (now (froms .entry)) (now (tos .entry)) used s ⌝ }
+    ensures { λ r. ⌜ r ≡ imageWithin (now (file .entry)) (now (symbols .entry)) (now (froms .entry)) (now (tos .entry)) used (s .0) ⌝ }
 {
-    if fields::class(file, entry(symbols, s)) == 1 {
-        let from = entry(froms, s) as usize;
-        let end = entry(tos, s) as usize;
+    if fields::class(file, entry(symbols, s.0)) == 1 {
+        let from = entry(froms, s.0) as usize;
+        let end = entry(tos, s.0) as usize;
         if from <= end {
             if end <= used {
                 return true;
@@ -60,7 +62,7 @@ fn imaged(file: &[u8], symbols: &[u32], at: u32, froms: &[u32], tos: &[u32], use
     let base = symbols_from(file, at);
     let mut i = 1;
     while i < n {
-        let s = u16_at(file, base + 2 * i);
+        let s = SymbolNo(u16_at(file, base + 2 * i));
         if image_within(file, symbols, froms, tos, s, used) {
             i += 1;
         } else {
@@ -96,7 +98,8 @@ pub extern "C" fn packed_copy(
     from: usize,
     to: usize,
 ) -> usize
-    ensures { λ r. ⌜ Answered (both (roomed used limit (now (pool .entry))) (lies from to used)) (range from to (now (pool .entry))) used limit (now (pool .entry)) (now (pool .exit)) r ⌝ }
+    ensures bytes { λ r. ⌜ Answered (both (roomed used limit (now (pool .entry))) (lies from to used)) (range from to (now (pool .entry))) used limit (now (pool .entry)) (now (pool .exit)) r ⌝ }
+    ensures lists { λ r. ⌜ Says (both (roomed used limit (now (pool .entry))) (lies from to used)) numberOf (Copies from to used limit (now (pool .entry)) (now (pool .exit))) r ⌝ }
 {
     if used <= limit {
         if limit <= pool.len() {
@@ -122,7 +125,8 @@ pub extern "C" fn packed_substitute(
     used: usize,
     limit: usize,
 ) -> usize
-    ensures { λ r. ⌜ Answered (both (roomed used limit (now (pool .entry))) (within (now (file .entry)) (now (symbols .entry)) at (now (froms .entry)) (now (tos .entry)) used)) (substitution (now (file .entry)) (now (symbols .entry)) at (now (froms .entry)) (now (tos .entry)) (now (pool .entry))) used limit (now (pool .entry)) (now (pool .exit)) r ⌝ }
+    ensures bytes { λ r. ⌜ Answered (both (roomed used limit (now (pool .entry))) (within (now (file .entry)) (now (symbols .entry)) at (now (froms .entry)) (now (tos .entry)) used)) (substitution (now (file .entry)) (now (symbols .entry)) at (now (froms .entry)) (now (tos .entry)) (now (pool .entry))) used limit (now (pool .entry)) (now (pool .exit)) r ⌝ }
+    ensures lists { λ r. ⌜ Says (both (roomed used limit (now (pool .entry))) (within (now (file .entry)) (now (symbols .entry)) at (now (froms .entry)) (now (tos .entry)) used)) numberOf (Substitutes (now (file .entry)) (now (symbols .entry)) at (now (froms .entry)) (now (tos .entry)) used limit (now (pool .entry)) (now (pool .exit))) r ⌝ }
 {
     if used <= limit {
         if limit <= pool.len() {
@@ -153,7 +157,8 @@ pub extern "C" fn packed_spell(
     used: usize,
     limit: usize,
 ) -> usize
-    ensures { λ r. ⌜ Answered (roomed used limit (now (pool .entry))) (spelling (now (file .entry)) (now (symbols .entry)) at) used limit (now (pool .entry)) (now (pool .exit)) r ⌝ }
+    ensures bytes { λ r. ⌜ Answered (roomed used limit (now (pool .entry))) (spelling (now (file .entry)) (now (symbols .entry)) at) used limit (now (pool .entry)) (now (pool .exit)) r ⌝ }
+    ensures lists { λ r. ⌜ Says (roomed used limit (now (pool .entry))) numberOf (Spells (now (file .entry)) (now (symbols .entry)) at used limit (now (pool .entry)) (now (pool .exit))) r ⌝ }
 {
     if used <= limit {
         if limit <= pool.len() {
@@ -175,7 +180,8 @@ pub extern "C" fn packed_is_substituted(
     from: usize,
     to: usize,
 ) -> usize
-    ensures { λ r. ⌜ r ≡ compared (both (lies from to (length (now (pool .entry)))) (within (now (file .entry)) (now (symbols .entry)) at (now (froms .entry)) (now (tos .entry)) (length (now (pool .entry))))) from to (now (pool .entry)) (substitution (now (file .entry)) (now (symbols .entry)) at (now (froms .entry)) (now (tos .entry)) (now (pool .entry))) ⌝ }
+    ensures bytes { λ r. ⌜ r ≡ compared (both (lies from to (length (now (pool .entry)))) (within (now (file .entry)) (now (symbols .entry)) at (now (froms .entry)) (now (tos .entry)) (length (now (pool .entry))))) from to (now (pool .entry)) (substitution (now (file .entry)) (now (symbols .entry)) at (now (froms .entry)) (now (tos .entry)) (now (pool .entry))) ⌝ }
+    ensures lists { λ r. ⌜ Says (both (lies from to (length (now (pool .entry)))) (within (now (file .entry)) (now (symbols .entry)) at (now (froms .entry)) (now (tos .entry)) (length (now (pool .entry))))) truthOf (Compares (now (file .entry)) (now (symbols .entry)) at (now (froms .entry)) (now (tos .entry)) (now (pool .entry)) from to) r ⌝ }
 {
     if from <= to {
         if to <= pool.len() {
@@ -206,7 +212,8 @@ pub extern "C" fn packed_is_spelled(
     from: usize,
     to: usize,
 ) -> usize
-    ensures { λ r. ⌜ r ≡ compared (lies from to (length (now (pool .entry)))) from to (now (pool .entry)) (spelling (now (file .entry)) (now (symbols .entry)) at) ⌝ }
+    ensures bytes { λ r. ⌜ r ≡ compared (lies from to (length (now (pool .entry)))) from to (now (pool .entry)) (spelling (now (file .entry)) (now (symbols .entry)) at) ⌝ }
+    ensures lists { λ r. ⌜ Says (lies from to (length (now (pool .entry)))) truthOf (ComparesRaw (now (file .entry)) (now (symbols .entry)) at (now (pool .entry)) from to) r ⌝ }
 {
     if from <= to {
         if to <= pool.len() {

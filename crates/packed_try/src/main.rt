@@ -1,5 +1,5 @@
 // Tries the functions over the pool on the frame file on standard input: for each $a and $p its variables are bound to texts of earlier
-// statements and its symbols substituted, compared and left out for want of room. A line tells what came out; the form of a line and the
+// statements and its symbols substituted, compared, copied and left out for want of room. A line tells what came out; the form of a line and the
 // choice of the texts are told in tests/packed/make_try.py, which works out the expected lines by itself.
 ghost use mathlib.Core.Path.{_≡_};
 ghost use lib.ListN.{length};
@@ -343,7 +343,21 @@ fn tell_vars(file: &[u8], symbols: &[u32], at: u32, sets: &[u64]) {
     say_members(vars.iter());
 }
 
-// Writes the two texts, tells what they are, and answers where the first ends.
+// Copies the text from `used` up to `end` behind itself and tells what stands there, whether there is no room where one byte is wanting, and
+// whether a range that is turned round is refused.
+fn try_copy(pool: &mut [u8], used: usize, end: usize) {
+    let room = pool.len();
+    let answer = packed_c::packed_copy(pool, end, room, used, end);
+    let last = kept(answer, end, room);
+    say_range(pool, end, last);
+    let short = wrapping_sub_usize(last, 1);
+    let less = packed_c::packed_copy(pool, end, short, used, end);
+    say(truth(less == packed_c::FULL));
+    let turned = packed_c::packed_copy(pool, end, room, end, used);
+    say(truth(turned == packed_c::REFUSED));
+}
+
+// Writes the two texts, tells what they are and what a copy of the first is, and answers where the first ends.
 fn try_texts(
     file: &[u8],
     symbols: &[u32],
@@ -368,6 +382,7 @@ fn try_texts(
         used,
         texts,
     );
+    try_copy(pool, used, texts.end);
     texts.end
 }
 

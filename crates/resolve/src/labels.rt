@@ -1,13 +1,15 @@
 // A port of parts of src/verify.rs of metamath-rs 0.3.9 (the search for a label in prepare_step, prepare_named_hyp), changed (see NOTICE).
-// Which statement a label names: one search in the index, and then a test of what was found. No two statements have one label.
+// Which statement a label names: one search in the index of labels, and then a test of what was found. No two statements have one label.
 ghost use mathlib.Core.Path.{_≡_};
 ghost use lib.ListN.{getD};
 ghost use Rattle.frames.specs.Database.{statementAt};
 ghost use Rattle.machine.specs.Ground.{isEssential, among};
 ghost use Rattle.resolve.specs.Resolve.{mayName, FindsNamed, FindsLabel};
+ghost use Rattle.label_index.specs.Labelled.{Labelled};
 use frames::fields;
 use frames::fields::FoundStatement;
 use frames::numbers::StatementNo;
+use label_index::find_labelled;
 
 // Whether statement s is a $e.
 fn is_essential(file: &[u8], statements: &[u32], s: StatementNo) -> bool
@@ -44,10 +46,11 @@ fn may_name(file: &[u8], statements: &[u32], p: StatementNo, s: StatementNo) -> 
 }
 
 // The $f, $a or $p of this label.
-pub fn find_named(file: &[u8], statements: &[u32], label: &[u8]) -> FoundStatement
+pub fn find_named(file: &[u8], statements: &[u32], labels: &[u32], label: &[u8]) -> FoundStatement
+    requires { ⌜ Labelled (now file) (now statements) (now labels) ⌝ }
     ensures { λ r. ⌜ FindsNamed (now (file .entry)) (now (statements .entry)) (now (label .entry)) r ⌝ }
 {
-    match fields::find_statement(file, statements, label) {
+    match find_labelled(file, statements, labels, label) {
         FoundStatement::Statement(s) => {
             if is_essential(file, statements, s) {
                 return FoundStatement::NoStatement;
@@ -59,10 +62,17 @@ pub fn find_named(file: &[u8], statements: &[u32], label: &[u8]) -> FoundStateme
 }
 
 // The statement that this label names in a proof of p: a $f, $a or $p, or a $e that p lists.
-pub fn find_label(file: &[u8], statements: &[u32], p: StatementNo, label: &[u8]) -> FoundStatement
+pub fn find_label(
+    file: &[u8],
+    statements: &[u32],
+    labels: &[u32],
+    p: StatementNo,
+    label: &[u8],
+) -> FoundStatement
+    requires { ⌜ Labelled (now file) (now statements) (now labels) ⌝ }
     ensures { λ r. ⌜ FindsLabel (now (file .entry)) (now (statements .entry)) (p .0) (now (label .entry)) r ⌝ }
 {
-    match fields::find_statement(file, statements, label) {
+    match find_labelled(file, statements, labels, label) {
         FoundStatement::Statement(s) => {
             if may_name(file, statements, p, s) {
                 return FoundStatement::Statement(s);

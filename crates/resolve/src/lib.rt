@@ -9,6 +9,7 @@ ghost use Rattle.frames.specs.Logic as words;
 ghost use Rattle.frames.specs.Table.{within};
 ghost use Rattle.resolve.specs.Resolve.{PreparesStatement, PreparesLabel, TellsAmbiguous, PreparesLocal, PreparesToken};
 ghost use Rattle.tokens.specs.Signs.{signAt};
+ghost use Rattle.label_index.specs.Labelled.{Labelled};
 use frames::fields;
 use frames::fields::FoundStatement;
 use frames::numbers::PlaceNo;
@@ -71,23 +72,38 @@ pub fn prepare_statement(
 }
 
 // A roster label as a step in a proof of p: 25, 29, 30.
-pub fn prepare_label(file: &[u8], statements: &[u32], p: StatementNo, label: &[u8]) -> PreparedStep
+pub fn prepare_label(
+    file: &[u8],
+    statements: &[u32],
+    labels: &[u32],
+    p: StatementNo,
+    label: &[u8],
+) -> PreparedStep
+    requires { ⌜ Labelled (now file) (now statements) (now labels) ⌝ }
     ensures { λ r. ⌜ PreparesLabel (now (file .entry)) (now (statements .entry)) (p .0) (now (label .entry)) r ⌝ }
 {
-    match find_label(file, statements, p, label) {
+    match find_label(file, statements, labels, p, label) {
         FoundStatement::Statement(s) => prepare_statement(file, statements, p, s),
         FoundStatement::NoStatement => PreparedStep::Refused(Refusal::StepMissing),
     }
 }
 
 // Whether the local label of a token, whose first `:` and `=` are known, is that of a $f, $a or $p.
-fn is_ambiguous(file: &[u8], statements: &[u32], token: &[u8], colon: usize, equals: usize) -> bool
+fn is_ambiguous(
+    file: &[u8],
+    statements: &[u32],
+    labels: &[u32],
+    token: &[u8],
+    colon: usize,
+    equals: usize,
+) -> bool
+    requires { ⌜ Labelled (now file) (now statements) (now labels) ⌝ }
     requires { ⌜ (colon ≡ signAt 58 (now token)) × (equals ≡ signAt 61 (now token)) ⌝ }
     ensures { λ r. ⌜ TellsAmbiguous (now (file .entry)) (now (statements .entry)) (now (token .entry)) r ⌝ }
 {
     if parts::has_local(token, colon) {
         let local = parts::local_label(token, colon, equals);
-        return match find_named(file, statements, local) {
+        return match find_named(file, statements, labels, local) {
             FoundStatement::Statement(_) => true,
             FoundStatement::NoStatement => false,
         };
@@ -119,22 +135,24 @@ fn prepare_local(
 pub fn prepare_step(
     file: &[u8],
     statements: &[u32],
+    labels: &[u32],
     p: StatementNo,
     token: &[u8],
     text: &[u8],
     locals: &[u32],
     count: usize,
 ) -> PreparedStep
+    requires { ⌜ Labelled (now file) (now statements) (now labels) ⌝ }
     requires { ⌜ count ≤ 4096 ⌝ }
     ensures { λ r. ⌜ PreparesToken (now (file .entry)) (now (statements .entry)) (p .0) (now (token .entry)) (now (text .entry)) (now (locals .entry)) count r ⌝ }
 {
     let colon = find(token, 58);
     let equals = find(token, 61);
-    if is_ambiguous(file, statements, token, colon, equals) {
+    if is_ambiguous(file, statements, labels, token, colon, equals) {
         return PreparedStep::Refused(Refusal::LocalLabelAmbiguous);
     }
     let label = parts::label(token, colon, equals);
-    match find_label(file, statements, p, label) {
+    match find_label(file, statements, labels, p, label) {
         FoundStatement::Statement(s) => prepare_statement(file, statements, p, s),
         FoundStatement::NoStatement => prepare_local(
             parts::has_local(token, colon),

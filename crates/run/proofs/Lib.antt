@@ -1,6 +1,3 @@
--- The laws of the run.
+-- The laws that letters, tokens and bytes have in common.
 pub mod Running
 pub mod Settling
-pub mod Lettering
-pub mod Byting
-pub mod Tokening

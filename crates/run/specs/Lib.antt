@@ -1,6 +1,3 @@
--- The run of a proof over lent tables.
+-- Where a run stands, and what reading on does.
 pub mod Running
 pub mod Reads
-pub mod Letters
-pub mod Bytes
-pub mod Tokens

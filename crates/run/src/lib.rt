@@ -1,9 +1,5 @@
 // A port of parts of src/verify.rs of metamath-rs 0.3.9 (verify_proof), changed (see NOTICE).
-// The run of a proof's text over lent tables, byte by byte.
-pub mod bytes;
-pub mod letters;
-pub mod token;
-
+// How the text of a proof is read on: what its letters, its tokens and its bytes have in common.
 use machine::Refusal;
 use memory::Counts;
 

@@ -8,15 +8,17 @@ ghost use Rattle.machine.specs.Run.{members};
 ghost use Rattle.variables.specs.Numbering.{Maps, MapsAll, floatsAt};
 use frames::fields;
 use frames::numbers::StatementNo;
+use frames::numbers::SymbolNo;
 
 // Numbers variable v, where it is not yet; answers how many have a number.
-pub fn map_var(numbers: &mut [u32], count: u32, v: usize) -> u32
+pub fn map_var(numbers: &mut [u32], count: u32, v: SymbolNo) -> u32
     requires { ⌜ count < 1000000 ⌝ }
-    ensures { λ r. ⌜ Maps (now (numbers .entry)) count v (now (numbers .exit)) r ⌝ }
+    ensures { λ r. ⌜ Maps (now (numbers .entry)) count (v .0) (now (numbers .exit)) r ⌝ }
 {
-    if v < numbers.len() {
-        if numbers[v] == 0 {
-            numbers[v] = count + 1;
+    let s = v.0;
+    if s < numbers.len() {
+        if numbers[s] == 0 {
+            numbers[s] = count + 1;
             return count + 1;
         }
     }
@@ -33,8 +35,8 @@ pub fn map_pairs(file: &[u8], at: u32, numbers: &mut [u32], count: u32) -> u32
     let mut i = 0;
     while i < n {
         let pair = fields::pair_of(file, at, i);
-        let left = map_var(numbers, c, pair.left.0);
-        c = map_var(numbers, left, pair.right.0);
+        let left = map_var(numbers, c, pair.left);
+        c = map_var(numbers, left, pair.right);
         i += 1;
     }
     c
@@ -54,7 +56,7 @@ fn map_float(
     let at = fields::statement_offset(statements, h);
     if fields::kind(file, at) == 2 {
         let v = fields::variable(file, at);
-        return map_var(numbers, count, v.0);
+        return map_var(numbers, count, v);
     }
     count
 }

@@ -1,7 +1,7 @@
 -- `packed_c::packed_copy` meets its contract: the tests are those of the ranges, and `add_range` adds the bytes.
 use native.Mathlib.Omega.{arith}
 use Rattle.packed.specs.Pool.{range}
-use Rattle.packed_c.proofs.Answering.{answered-refused, answered-added, both-yes, first-no, second-no, roomed-yes, limit-short, pool-short, lies-yes, lies-turned, lies-past}
+use Rattle.packed_c.proofs.Answering.{answered-refused, answered-added, copies, both-yes, first-no, second-no, roomed-yes, limit-short, pool-short, lies-yes, lies-turned, lies-past}
 use borrow.Author.Needs.{needs}
 use Rattle.packed_c.proofs.packed_copy.Statement.{statement}
 use Rattle.packed_c.proofs.packed_copy.Tie as tie
@@ -16,7 +16,7 @@ same-length : tie.Need-same-length
 same-length c = search needs
 
 returns : tie.Need-returns
-returns c = let a = c .before .before .before .before .before .before .before .before .before .before .args in answered-added (both-yes (roomed-yes (a .used) (a .limit) (a .pool .now) (c .before .before .before .before .before .before .before .before .if1 .taken) (c .before .before .before .before .before .before .before .if2 .taken)) (lies-yes (a .from) (a .to) (a .used) (c .before .before .before .before .before .before .if3 .taken) (c .before .before .before .before .before .if4 .taken))) (c .before .before .before .add-range .ensures) (c .number .ensures)
+returns c = let a = c .before .before .before .before .before .before .before .before .before .before .args in answered-added (both-yes (roomed-yes (a .used) (a .limit) (a .pool .now) (c .before .before .before .before .before .before .before .before .if1 .taken) (c .before .before .before .before .before .before .before .if2 .taken)) (lies-yes (a .from) (a .to) (a .used) (c .before .before .before .before .before .before .if3 .taken) (c .before .before .before .before .before .if4 .taken))) (c .before .before .before .add-range .ensures .0) (copies (c .before .before .before .add-range .ensures .0) (c .before .before .before .add-range .ensures .1)) (c .number .ensures)
 
 returns-2 : tie.Need-returns-2
 returns-2 c = let a = c .before .before .before .before .before .args in answered-refused (range (a .from) (a .to) (a .pool .now)) (a .used) (a .limit) (a .pool .now) (second-no _ (lies-past (a .from) (a .to) (a .used) (omega arith)))

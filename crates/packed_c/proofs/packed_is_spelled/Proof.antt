@@ -15,7 +15,7 @@ truth-requires c κs = search needs
 
 returns : tie.Need-returns
 unfolding spelling
-returns c = let a = c .before .before .before .before .before .before .before .args in compared-told (a .from) (a .to) (a .pool .now) (spelling (a .file .now) (a .symbols .now) (a .at)) (lies-yes (a .from) (a .to) (length (a .pool .now)) (c .before .before .before .if1 .taken) (c .before .before .if2 .taken)) (c .before .raw-eq .ensures .0) (c .truth .ensures)
+returns c = let a = c .before .before .before .before .before .before .before .args in compared-told (a .from) (a .to) (a .pool .now) (spelling (a .file .now) (a .symbols .now) (a .at)) (lies-yes (a .from) (a .to) (length (a .pool .now)) (c .before .before .before .if1 .taken) (c .before .before .if2 .taken)) (c .before .raw-eq .ensures .0) (c .before .raw-eq .ensures .1) (c .truth .ensures)
 
 returns-2 : tie.Need-returns-2
 returns-2 c = let a = c .before .before .before .before .before .args in compared-refused (a .from) (a .to) (a .pool .now) (spelling (a .file .now) (a .symbols .now) (a .at)) (lies-past (a .from) (a .to) (length (a .pool .now)) (omega arith))

@@ -21,7 +21,7 @@ truth-requires c κs = search needs
 
 returns : tie.Need-returns
 unfolding substitution
-returns c = let a = c .before .before .before .before .before .before .before .before .before .before .before .args in compared-told (a .from) (a .to) (a .pool .now) (substitution (a .file .now) (a .symbols .now) (a .at) (a .froms .now) (a .tos .now) (a .pool .now)) (both-yes (lies-yes (a .from) (a .to) (length (a .pool .now)) (c .before .before .before .before .before .if1 .taken) (c .before .before .before .before .if2 .taken)) (sym (c .before .before .before .imaged .ensures) ∙ c .before .before .if3 .taken)) (c .before .do-substitute-eq .ensures .0) (c .truth .ensures)
+returns c = let a = c .before .before .before .before .before .before .before .before .before .before .before .args in compared-told (a .from) (a .to) (a .pool .now) (substitution (a .file .now) (a .symbols .now) (a .at) (a .froms .now) (a .tos .now) (a .pool .now)) (both-yes (lies-yes (a .from) (a .to) (length (a .pool .now)) (c .before .before .before .before .before .if1 .taken) (c .before .before .before .before .if2 .taken)) (sym (c .before .before .before .imaged .ensures) ∙ c .before .before .if3 .taken)) (c .before .do-substitute-eq .ensures .0) (c .before .do-substitute-eq .ensures .1) (c .truth .ensures)
 
 returns-2 : tie.Need-returns-2
 returns-2 c = let a = c .before .before .before .before .before .before .before .before .before .args in compared-refused (a .from) (a .to) (a .pool .now) (substitution (a .file .now) (a .symbols .now) (a .at) (a .froms .now) (a .tos .now) (a .pool .now)) (second-no _ (sym (c .before .imaged .ensures) ∙ c .if3 .left))

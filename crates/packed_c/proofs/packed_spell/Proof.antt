@@ -17,7 +17,7 @@ same-length c = search needs
 
 returns : tie.Need-returns
 unfolding spelling
-returns c = let a = c .before .before .before .before .before .before .before .before .before .before .args in answered-added (roomed-yes (a .used) (a .limit) (a .pool .now) (c .before .before .before .before .before .before .if1 .taken) (c .before .before .before .before .before .if2 .taken)) (c .before .before .before .do-substitute-raw .ensures .0) (c .number .ensures)
+returns c = let a = c .before .before .before .before .before .before .before .before .before .before .args in answered-added (roomed-yes (a .used) (a .limit) (a .pool .now) (c .before .before .before .before .before .before .if1 .taken) (c .before .before .before .before .before .if2 .taken)) (c .before .before .before .do-substitute-raw .ensures .0) (c .before .before .before .do-substitute-raw .ensures .1) (c .number .ensures)
 
 returns-2 : tie.Need-returns-2
 returns-2 c = let a = c .before .before .before .before .before .args in answered-refused (spelling (a .file .now) (a .symbols .now) (a .at)) (a .used) (a .limit) (a .pool .now) (pool-short (a .used) (a .limit) (a .pool .now) (omega arith))

@@ -23,7 +23,7 @@ same-length c = search needs
 
 returns : tie.Need-returns
 unfolding substitution
-returns c = let a = c .before .before .before .before .before .before .before .before .before .before .before .before .before .before .args in answered-added (both-yes (roomed-yes (a .used) (a .limit) (a .pool .now) (c .before .before .before .before .before .before .before .before .if1 .taken) (c .before .before .before .before .before .before .before .if2 .taken)) (sym (c .before .before .before .before .before .before .imaged .ensures) ∙ c .before .before .before .before .before .if3 .taken)) (c .before .before .before .do-substitute .ensures .0) (c .number .ensures)
+returns c = let a = c .before .before .before .before .before .before .before .before .before .before .before .before .before .before .args in answered-added (both-yes (roomed-yes (a .used) (a .limit) (a .pool .now) (c .before .before .before .before .before .before .before .before .if1 .taken) (c .before .before .before .before .before .before .before .if2 .taken)) (sym (c .before .before .before .before .before .before .imaged .ensures) ∙ c .before .before .before .before .before .if3 .taken)) (c .before .before .before .do-substitute .ensures .0) (c .before .before .before .do-substitute .ensures .1) (c .number .ensures)
 
 returns-2 : tie.Need-returns-2
 returns-2 c = let a = c .before .before .before .before .before .before .before .before .before .args in answered-refused (substitution (a .file .now) (a .symbols .now) (a .at) (a .froms .now) (a .tos .now) (a .pool .now)) (a .used) (a .limit) (a .pool .now) (second-no _ (sym (c .before .imaged .ensures) ∙ c .if3 .left))

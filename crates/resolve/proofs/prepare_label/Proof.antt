@@ -5,7 +5,7 @@ use Rattle.resolve.proofs.prepare_label.Statement.{statement}
 use Rattle.resolve.proofs.prepare_label.Tie as tie
 
 find-label-requires : tie.Need-find-label-requires
-find-label-requires c κs = search needs
+find-label-requires c κs = c .before .before .before .before .pre
 
 enum-known-s : tie.Need-enum-known-s
 enum-known-s c = search needs

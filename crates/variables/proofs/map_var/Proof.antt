@@ -34,15 +34,15 @@ same-length c = search needs
 
 -- src/lib.rt:17:13
 returns : tie.Need-returns
-returns c = let a = c .before .before .before .args in maps-new (a .numbers .now) (a .count) (a .v) (c .before .before .if1 .taken) (c .if2 .taken)
+returns c = let a = c .before .before .before .args in maps-new (a .numbers .now) (a .count) (a .v .0) (c .before .before .if1 .taken) (c .if2 .taken)
 
 -- src/lib.rt:10:1
 returns-2 : tie.Need-returns-2
-returns-2 c = let a = c .before .before .before .args in maps-known (a .numbers .now) (a .count) (a .v) (c .if2 .left)
+returns-2 c = let a = c .before .before .before .args in maps-known (a .numbers .now) (a .count) (a .v .0) (c .if2 .left)
 
 -- src/lib.rt:10:1
 returns-3 : tie.Need-returns-3
-returns-3 c = let a = c .before .args in maps-past (a .numbers .now) (a .count) (a .v) (c .if1 .left)
+returns-3 c = let a = c .before .args in maps-past (a .numbers .now) (a .count) (a .v .0) (c .if1 .left)
 
 pub map-var-spec : {M : Type 1} → statement M
 map-var-spec =

@@ -32,15 +32,15 @@ set-bit-requires c κs = search needs
 
 -- src/raw_set.rt:21:13
 returns : tie.Need-returns
-returns c = let a = c .before .before .before .before .before .before .before .before .before .args in marks-number (a .file .now) (a .symbols .now) (a .numbers .now) (a .s) _ (var-yes (a .file .now) (a .symbols .now) (a .s) _ _ (c .before .before .before .before .before .entry .ensures) (c .before .before .before .before .class .ensures) (c .before .before .before .if1 .taken)) (c .before .before .entry2 .ensures) (c .before .if2 .taken) (c .set-bit .ensures .0)
+returns c = let a = c .before .before .before .before .before .before .before .before .before .args in marks-number (a .file .now) (a .symbols .now) (a .numbers .now) (a .s .0) _ (var-yes (a .file .now) (a .symbols .now) (a .s .0) _ _ (c .before .before .before .before .before .entry .ensures) (c .before .before .before .before .class .ensures) (c .before .before .before .if1 .taken)) (c .before .before .entry2 .ensures) (c .before .if2 .taken) (c .set-bit .ensures .0)
 
 -- src/raw_set.rt:15:1
 returns-2 : tie.Need-returns-2
-returns-2 c = let a = c .before .before .before .before .before .before .before .before .args in let n = c .before .entry2 .ensures in marks-nothing (a .file .now) (a .symbols .now) (a .numbers .now) (a .s) (a .all .words) (omega arith)
+returns-2 c = let a = c .before .before .before .before .before .before .before .before .args in let n = c .before .entry2 .ensures in marks-nothing (a .file .now) (a .symbols .now) (a .numbers .now) (a .s .0) (a .all .words) (omega arith)
 
 -- src/raw_set.rt:15:1
 returns-3 : tie.Need-returns-3
-returns-3 c = let a = c .before .before .before .before .before .before .args in marks-constant (a .file .now) (a .symbols .now) (a .numbers .now) (a .s) (a .all .words) (var-no (a .file .now) (a .symbols .now) (a .s) _ _ (c .before .before .entry .ensures) (c .before .class .ensures) (c .if1 .left))
+returns-3 c = let a = c .before .before .before .before .before .before .args in marks-constant (a .file .now) (a .symbols .now) (a .numbers .now) (a .s .0) (a .all .words) (var-no (a .file .now) (a .symbols .now) (a .s .0) _ _ (c .before .before .entry .ensures) (c .before .class .ensures) (c .if1 .left))
 
 pub mark-symbol-spec : {M : Type 1} → statement M
 mark-symbol-spec =

@@ -7,7 +7,7 @@ use Rattle.engine.proofs.roster.prepare_roster.Tie as tie
 
 -- src/roster.rt:54:11
 prepare-label-requires : tie.Need-prepare-label-requires
-prepare-label-requires c κs = search needs
+prepare-label-requires c κs = c .before .before .before .before .before .before .before .before .pre .0
 
 -- src/roster.rt:55:34
 enum-known-h : tie.Need-enum-known-h
@@ -59,7 +59,7 @@ same-length-4 c = search needs
 
 -- src/roster.rt:38:1
 returns-2 : tie.Need-returns-2
-returns-2 c = roster-frame (c .before .before .before .before .before .before .before .prepare-label .ensures) (c .before .before .before .before .before .a .given .1) (c .before .before .before .before .before .before .before .before .before .before .before .before .before .before .before .pre .0 .0) (c .before .before .place-frame .ensures) refl
+returns-2 c = roster-frame (c .before .before .before .before .before .before .before .prepare-label .ensures) (c .before .before .before .before .before .a .given .1) (c .before .before .before .before .before .before .before .before .before .before .before .before .before .before .before .before .pre .1 .0 .0) (c .before .before .place-frame .ensures) refl
 
 -- src/roster.rt:38:1
 returns-3 : tie.Need-returns-3

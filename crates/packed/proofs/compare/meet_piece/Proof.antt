@@ -32,18 +32,18 @@ meet-range-requires : tie.Need-meet-range-requires
 unfolding isVar symbolAt
 meet-range-requires c κs =
     let a = c .before .before .before .before .before .before .before .before .before .before .args in
-    let v : isVar (a .file .now) (a .symbols .now) (a .s) ≡ true = equal-yes (cc) in
+    let v : isVar (a .file .now) (a .symbols .now) (a .s .0) ≡ true = equal-yes (cc) in
     let m = c .before .before .before .before .before .before .before .before .before .before .pre .1 in
-    let h = m .rises (a .s) (List·Memᴰ·head refl) v in
-    let k = m .within (a .s) (List·Memᴰ·head refl) v in
+    let h = m .rises (a .s .0) (List·Memᴰ·head refl) v in
+    let k = m .within (a .s .0) (List·Memᴰ·head refl) v in
     (c .before .before .before .before .before .before .before .before .before .before .pre .0, (omega arith, omega arith))
 
 returns : tie.Need-returns
 unfolding isVar symbolAt piece image
 returns c =
     let a = c .before .before .before .before .before .before .before .before .before .before .before .args in
-    let v : isVar (a .file .now) (a .symbols .now) (a .s) ≡ true = equal-yes (cc) in
-    cc (pick-first (spelled (a .file .now) (a .symbols .now) (a .s)) v refl)
+    let v : isVar (a .file .now) (a .symbols .now) (a .s .0) ≡ true = equal-yes (cc) in
+    cc (pick-first (spelled (a .file .now) (a .symbols .now) (a .s .0)) v refl)
 
 name-requires : tie.Need-name-requires
 name-requires c κs = search needs
@@ -55,8 +55,8 @@ returns-2 : tie.Need-returns-2
 unfolding isVar symbolAt piece spelled
 returns-2 c =
     let a = c .before .before .before .before .before .before .before .before .before .before .args in
-    let v : isVar (a .file .now) (a .symbols .now) (a .s) ≡ false = equal-no (λ q. c .before .before .if1 .left (cc)) in
-    cc (pick-second (image (a .froms .now) (a .tos .now) (a .pool .now) (a .s)) v refl)
+    let v : isVar (a .file .now) (a .symbols .now) (a .s .0) ≡ false = equal-no (λ q. c .before .before .if1 .left (cc)) in
+    cc (pick-second (image (a .froms .now) (a .tos .now) (a .pool .now) (a .s .0)) v refl)
 
 pub meet-piece-spec : {M : Type 1} → statement M
 meet-piece-spec =

@@ -1,5 +1,5 @@
 -- `packed::pool::add_name` meets its contract: there is room for the name, or nothing is written (`adds-to`, `adds-full`).
-use Rattle.packed.proofs.Adding.{adds-full, adds-to}
+use Rattle.packed.proofs.Adding.{adds-full, adds-to, untouched-full, untouched-to}
 use Rattle.packed.proofs.Packs.{ended-length}
 use Rattle.packed.specs.Packing.{ended}
 use borrow.Author.Needs.{needs}
@@ -16,7 +16,7 @@ returns : tie.Need-returns
 returns c =
     let a = c .before .before .before .args in
     let l = ended-length (a .name .now) in
-    adds-full (ended (a .name .now)) (a .pool .now) (omega arith)
+    (adds-full (ended (a .name .now)) (a .pool .now) (omega arith), untouched-full (a .pool .now))
 
 -- src/pool.rt:61:5
 put-name-requires : tie.Need-put-name-requires
@@ -35,7 +35,7 @@ returns-2 : tie.Need-returns-2
 returns-2 c =
     let a = c .before .before .before .before .before .before .before .args in
     let l = ended-length (a .name .now) in
-    adds-to (omega arith) (omega arith) (omega arith) (c .before .before .put-name .ensures)
+    (adds-to (omega arith) (omega arith) (omega arith) (c .before .before .put-name .ensures), untouched-to _ _ _)
 
 pub add-name-spec : {M : Type 1} → statement M
 add-name-spec = tie.close (tie.spec sub-if1 returns put-name-requires add-t6 same-length returns-2)

@@ -1,5 +1,5 @@
 -- `packed::pool::add_range` meets its contract: there is room for the range, or nothing is written (`adds-to`, `adds-full`).
-use Rattle.packed.proofs.Adding.{adds-full, adds-to}
+use Rattle.packed.proofs.Adding.{adds-full, adds-to, untouched-full, untouched-to}
 use Rattle.packed.proofs.Written.{range-length}
 use Rattle.packed.specs.Pool.{range}
 use borrow.Author.Needs.{needs}
@@ -20,7 +20,7 @@ returns : tie.Need-returns
 returns c =
     let a = c .before .before .args in
     let l = range-length (a .from) (a .to) (a .pool .now) (omega arith) (omega arith) in
-    adds-full (range (a .from) (a .to) (a .pool .now)) (a .pool .now) (omega arith)
+    (adds-full (range (a .from) (a .to) (a .pool .now)) (a .pool .now) (omega arith), untouched-full (a .pool .now))
 
 -- src/pool.rt:74:5
 copy-within-requires : tie.Need-copy-within-requires
@@ -39,7 +39,7 @@ returns-2 : tie.Need-returns-2
 returns-2 c =
     let a = c .before .before .before .before .before .before .args in
     let l = range-length (a .from) (a .to) (a .pool .now) (omega arith) (omega arith) in
-    adds-to (omega arith) (omega arith) (omega arith) (c .before .before .copy-within .ensures)
+    (adds-to (omega arith) (omega arith) (omega arith) (c .before .before .copy-within .ensures), untouched-to _ _ _)
 
 pub add-range-spec : {M : Type 1} → statement M
 add-range-spec =

@@ -36,9 +36,9 @@ cast-to c = search needs
 add-range-requires : tie.Need-add-range-requires
 add-range-requires c κs =
     let a = c .before .before .before .before .before .before .before .before .before .before .before .args in
-    let v = var-yes (a .file .now) (a .symbols .now) (a .s) _ _ (c .before .before .before .before .before .entry .ensures) (c .before .before .before .before .class .ensures) (c .before .before .before .if1 .taken) in
-    let r = c .before .before .before .before .before .before .before .before .before .before .before .pre .1 .rises (a .s) (List·Memᴰ·head refl) v in
-    let w = c .before .before .before .before .before .before .before .before .before .before .before .pre .1 .within (a .s) (List·Memᴰ·head refl) v in
+    let v = var-yes (a .file .now) (a .symbols .now) (a .s .0) _ _ (c .before .before .before .before .before .entry .ensures) (c .before .before .before .before .class .ensures) (c .before .before .before .if1 .taken) in
+    let r = c .before .before .before .before .before .before .before .before .before .before .before .pre .1 .rises (a .s .0) (List·Memᴰ·head refl) v in
+    let w = c .before .before .before .before .before .before .before .before .before .before .before .pre .1 .within (a .s .0) (List·Memᴰ·head refl) v in
     ((omega arith, omega arith), (omega arith, omega arith))
 
 -- src/substitute.rt:36:9
@@ -49,8 +49,8 @@ same-length c = search needs
 returns : tie.Need-returns
 returns c =
     let a = c .before .before .before .before .before .before .before .before .before .before .before .before .before .before .args in
-    let v = var-yes (a .file .now) (a .symbols .now) (a .s) _ _ (c .before .before .before .before .before .before .before .before .entry .ensures) (c .before .before .before .before .before .before .before .class .ensures) (c .before .before .before .before .before .before .if1 .taken) in
-    adds-same (piece-image (a .file .now) (a .symbols .now) (a .froms .now) (a .tos .now) (a .pool .now) (a .s) _ _ v (c .before .before .before .before .before .entry2 .ensures) (c .before .before .before .before .entry3 .ensures)) (c .before .before .add-range .ensures)
+    let v = var-yes (a .file .now) (a .symbols .now) (a .s .0) _ _ (c .before .before .before .before .before .before .before .before .entry .ensures) (c .before .before .before .before .before .before .before .class .ensures) (c .before .before .before .before .before .before .if1 .taken) in
+    adds-same (piece-image (a .file .now) (a .symbols .now) (a .froms .now) (a .tos .now) (a .pool .now) (a .s .0) _ _ v (c .before .before .before .before .before .entry2 .ensures) (c .before .before .before .before .entry3 .ensures)) (c .before .before .add-range .ensures .0)
 
 -- src/substitute.rt:38:5
 add-symbol-requires : tie.Need-add-symbol-requires
@@ -64,8 +64,8 @@ same-length-2 c = search needs
 returns-2 : tie.Need-returns-2
 returns-2 c =
     let a = c .before .before .before .before .before .before .before .before .before .before .before .before .args in
-    let v = var-no (a .file .now) (a .symbols .now) (a .s) _ _ (c .before .before .before .before .before .before .entry .ensures) (c .before .before .before .before .before .class .ensures) (c .before .before .before .before .if1 .left) in
-    adds-same (piece-name (a .file .now) (a .symbols .now) (a .froms .now) (a .tos .now) (a .pool .now) (a .s) v) (c .before .before .add-symbol .ensures)
+    let v = var-no (a .file .now) (a .symbols .now) (a .s .0) _ _ (c .before .before .before .before .before .before .entry .ensures) (c .before .before .before .before .before .class .ensures) (c .before .before .before .before .if1 .left) in
+    adds-same (piece-name (a .file .now) (a .symbols .now) (a .froms .now) (a .tos .now) (a .pool .now) (a .s .0) v) (c .before .before .add-symbol .ensures)
 
 pub add-piece-spec : {M : Type 1} → statement M
 add-piece-spec =

@@ -23,7 +23,7 @@ same-length c = search needs
 
 -- src/substitute.rt:19:1
 returns : tie.Need-returns
-returns c = let a = c .before .before .before .before .before .before .before .before .before .args in adds-same (name-spelled (a .file .now) (a .symbols .now) _ (a .s) _ (c .before .before .before .before .before .entry .ensures) (c .before .before .before .before .name .ensures)) (c .before .before .add-name .ensures)
+returns c = let a = c .before .before .before .before .before .before .before .before .before .args in adds-same (name-spelled (a .file .now) (a .symbols .now) _ (a .s .0) _ (c .before .before .before .before .before .entry .ensures) (c .before .before .before .before .name .ensures)) (c .before .before .add-name .ensures .0)
 
 pub add-symbol-spec : {M : Type 1} → statement M
 add-symbol-spec =

@@ -5,8 +5,8 @@ use mathlib.Core.Path.{_∙_, sym}
 use Rattle.resolve.proofs.labels.find_label.Statement.{statement}
 use Rattle.resolve.proofs.labels.find_label.Tie as tie
 
-find-statement-requires : tie.Need-find-statement-requires
-find-statement-requires c κs = search needs
+find-labelled-requires : tie.Need-find-labelled-requires
+find-labelled-requires c κs = c .before .before .before .before .pre
 
 enum-known-s : tie.Need-enum-known-s
 enum-known-s c = search needs
@@ -15,22 +15,22 @@ may-name-requires : tie.Need-may-name-requires
 may-name-requires c κs = search needs
 
 returns : tie.Need-returns
-returns c = let a = c .before .before .before .before .before .before .before .before .before .args in label-found (a .file .now) (a .statements .now) (a .label .now) (c .before .before .before .s .given .1) (c .before .before .before .before .before .find-statement .ensures) (a .p .0) (sym (c .before .may-name .ensures) ∙ c .if1 .taken)
+returns c = let a = c .before .before .before .before .before .before .before .before .before .before .args in label-found (a .file .now) (a .statements .now) (a .label .now) (c .before .before .before .s .given .1) (c .before .before .before .before .before .find-labelled .ensures) (a .p .0) (sym (c .before .may-name .ensures) ∙ c .if1 .taken)
 
 enum-told : tie.Need-enum-told
 enum-told c = search needs
 
 returns-2 : tie.Need-returns-2
-returns-2 c = let a = c .before .before .before .before .before .before .before .before .before .args in label-refused (a .file .now) (a .statements .now) (a .label .now) (c .before .before .before .s .given .1) (c .before .before .before .before .before .find-statement .ensures) (a .p .0) (sym (c .before .may-name .ensures) ∙ c .if1 .left)
+returns-2 c = let a = c .before .before .before .before .before .before .before .before .before .before .args in label-refused (a .file .now) (a .statements .now) (a .label .now) (c .before .before .before .s .given .1) (c .before .before .before .before .before .find-labelled .ensures) (a .p .0) (sym (c .before .may-name .ensures) ∙ c .if1 .left)
 
 returns-3 : tie.Need-returns-3
-returns-3 c = let a = c .before .before .before .before .before .before .args in label-nowhere (a .file .now) (a .statements .now) (a .label .now) (c .enum-told .given .1) (c .before .before .find-statement .ensures) (a .p .0)
+returns-3 c = let a = c .before .before .before .before .before .before .before .args in label-nowhere (a .file .now) (a .statements .now) (a .label .now) (c .enum-told .given .1) (c .before .before .find-labelled .ensures) (a .p .0)
 
 pub find-label-spec : {M : Type 1} → statement M
 find-label-spec =
     tie.close
     (tie.spec
-    find-statement-requires
+    find-labelled-requires
     enum-known-s
     may-name-requires
     returns

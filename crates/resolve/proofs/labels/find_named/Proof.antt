@@ -5,8 +5,8 @@ use mathlib.Core.Path.{_∙_, sym}
 use Rattle.resolve.proofs.labels.find_named.Statement.{statement}
 use Rattle.resolve.proofs.labels.find_named.Tie as tie
 
-find-statement-requires : tie.Need-find-statement-requires
-find-statement-requires c κs = search needs
+find-labelled-requires : tie.Need-find-labelled-requires
+find-labelled-requires c κs = c .before .before .before .before .pre
 
 enum-known-s : tie.Need-enum-known-s
 enum-known-s c = search needs
@@ -15,22 +15,22 @@ is-essential-requires : tie.Need-is-essential-requires
 is-essential-requires c κs = search needs
 
 returns : tie.Need-returns
-returns c = let a = c .before .before .before .before .before .before .before .before .before .args in named-essential (a .file .now) (a .statements .now) (a .label .now) (c .before .before .before .s .given .1) (c .before .before .before .before .before .find-statement .ensures) (sym (c .before .is-essential .ensures) ∙ c .if1 .taken)
+returns c = let a = c .before .before .before .before .before .before .before .before .before .before .args in named-essential (a .file .now) (a .statements .now) (a .label .now) (c .before .before .before .s .given .1) (c .before .before .before .before .before .find-labelled .ensures) (sym (c .before .is-essential .ensures) ∙ c .if1 .taken)
 
 enum-told : tie.Need-enum-told
 enum-told c = search needs
 
 returns-2 : tie.Need-returns-2
-returns-2 c = let a = c .before .before .before .before .before .before .before .before .before .args in named-found (a .file .now) (a .statements .now) (a .label .now) (c .before .before .before .s .given .1) (c .before .before .before .before .before .find-statement .ensures) (sym (c .before .is-essential .ensures) ∙ c .if1 .left)
+returns-2 c = let a = c .before .before .before .before .before .before .before .before .before .before .args in named-found (a .file .now) (a .statements .now) (a .label .now) (c .before .before .before .s .given .1) (c .before .before .before .before .before .find-labelled .ensures) (sym (c .before .is-essential .ensures) ∙ c .if1 .left)
 
 returns-3 : tie.Need-returns-3
-returns-3 c = let a = c .before .before .before .before .before .before .args in named-absent (a .file .now) (a .statements .now) (a .label .now) (c .enum-told .given .1) (c .before .before .find-statement .ensures)
+returns-3 c = let a = c .before .before .before .before .before .before .before .args in named-absent (a .file .now) (a .statements .now) (a .label .now) (c .enum-told .given .1) (c .before .before .find-labelled .ensures)
 
 pub find-named-spec : {M : Type 1} → statement M
 find-named-spec =
     tie.close
     (tie.spec
-    find-statement-requires
+    find-labelled-requires
     enum-known-s
     is-essential-requires
     returns

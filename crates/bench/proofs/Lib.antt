@@ -1,0 +1,6 @@
+-- The calls meet their contracts.
+pub mod Preparing
+pub mod Asking
+pub mod Checking
+pub mod Promise
+pub mod Small

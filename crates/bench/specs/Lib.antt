@@ -1,0 +1,3 @@
+-- What the calls answer.
+pub mod Ours
+pub mod Calls

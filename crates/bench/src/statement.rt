@@ -1,0 +1,128 @@
+// A port of parts of src/verify.rs of metamath-rs 0.3.9 (verify_segment), changed (see NOTICE).
+// One statement of a checked file, over tables that are lent.
+ghost use mathlib.Core.Path.{_≡_};
+ghost use Prim.Native.Nat.{_<_, _≤_};
+ghost use lib.ListN.{length};
+ghost use Rattle.frames.specs.Database.{database};
+ghost use Rattle.frames.specs.Facts.{statementOf};
+ghost use Rattle.machine.specs.Memory.{limited};
+ghost use Rattle.machine.specs.Bench.{answerGood, ended};
+ghost use Rattle.machine.specs.Run.{run};
+ghost use Rattle.resolve.specs.Filed.{Filed};
+ghost use Rattle.label_index.specs.Labelled.{Labelled};
+ghost use Rattle.told.specs.Says.{Says, roomLent};
+ghost use Rattle.bench.specs.Ours.{Ours};
+use clearing::clear_words32;
+use clearing::clear_words64;
+use frames::fields;
+use frames::numbers::StatementNo;
+use proof::verify_proof;
+use told::Told;
+use told::limits_of;
+use told::tell;
+
+// The proof of statement p, a $p, whose text is this. Our tables are cleared first.
+fn answer_proof(
+    file: &[u8],
+    symbols: &[u32],
+    statements: &[u32],
+    labels: &[u32],
+    p: StatementNo,
+    text: &[u8],
+    table: &mut [u64],
+    seats: &mut [u32],
+    froms: &mut [u32],
+    tos: &mut [u32],
+    sets: &mut [u64],
+    numbers: &mut [u32],
+    pool: &mut [u8],
+    stack: &mut [u64],
+    places: &mut [u64],
+    locals: &mut [u32],
+) -> Told
+    requires { ⌜ Labelled (now file) (now statements) (now labels) ⌝ }
+    requires filed { ⌜ Filed (now file) (now symbols) (now statements) ⌝ }
+    requires asked { ⌜ (p .0 < length (now statements)) × (length (now text) ≤ 65536) ⌝ }
+    requires ours { ⌜ Ours (now table) (now seats) (now froms) (now tos) (now sets) (now numbers) (now locals) ⌝ }
+    ensures { λ r. ⌜ Says (ended (run (database (now (file .entry))) (p .0) (limited (roomLent (length (now (pool .entry))) (length (now (stack .entry))) (length (now (places .entry))))) (now (text .entry)))) r ⌝ }
+{
+    clear_words64(table);
+    clear_words32(froms);
+    clear_words32(tos);
+    clear_words32(numbers);
+    let limits = limits_of(pool.len(), stack.len(), places.len());
+    tell(verify_proof(
+        file,
+        symbols,
+        statements,
+        labels,
+        p,
+        text,
+        table,
+        seats,
+        froms,
+        tos,
+        sets,
+        numbers,
+        pool,
+        stack,
+        places,
+        locals,
+        limits,
+    ))
+}
+
+// Statement p: 8 where it is no $p or there is none, else the answer to its proof.
+pub fn answer_statement(
+    file: &[u8],
+    symbols: &[u32],
+    statements: &[u32],
+    labels: &[u32],
+    p: StatementNo,
+    table: &mut [u64],
+    seats: &mut [u32],
+    froms: &mut [u32],
+    tos: &mut [u32],
+    sets: &mut [u64],
+    numbers: &mut [u32],
+    pool: &mut [u8],
+    stack: &mut [u64],
+    places: &mut [u64],
+    locals: &mut [u32],
+) -> Told
+    requires { ⌜ Labelled (now file) (now statements) (now labels) ⌝ }
+    requires filed { ⌜ Filed (now file) (now symbols) (now statements) ⌝ }
+    requires ours { ⌜ Ours (now table) (now seats) (now froms) (now tos) (now sets) (now numbers) (now locals) ⌝ }
+    ensures { λ r. ⌜ Says (answerGood (database (now (file .entry))) (p .0) (roomLent (length (now (pool .entry))) (length (now (stack .entry))) (length (now (places .entry))))) r ⌝ }
+{
+    let own = p.0;
+    if own < statements.len() {
+        let at = fields::statement_offset(statements, p);
+        if fields::kind(file, at) == 5 {
+            let text = fields::proof_text(file, at);
+            return answer_proof(
+                file,
+                symbols,
+                statements,
+                labels,
+                p,
+                text,
+                table,
+                seats,
+                froms,
+                tos,
+                sets,
+                numbers,
+                pool,
+                stack,
+                places,
+                locals,
+            );
+        }
+    }
+    Told {
+        number: 8,
+        place: 0,
+        steps: 0,
+    }
+}

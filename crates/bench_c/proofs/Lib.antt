@@ -1,0 +1,2 @@
+-- The calls for C and Rust meet their contracts.
+pub mod Wording

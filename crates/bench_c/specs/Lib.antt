@@ -1,0 +1,2 @@
+-- What the calls for C and Rust promise.
+pub mod Words

@@ -1,0 +1,27 @@
+-- The calls' answers as one number each.
+use Prim.Native.Nat.{ℕ}
+use mathlib.Core.Path.{_≡_}
+use mathlib.Core.List.{List}
+use Rattle.frames.specs.Verdict.{numberOf, verdict}
+use Rattle.frames.specs.Database.{database}
+use Rattle.answers.specs.Packed.{packedAnswer}
+use Rattle.bench.specs.Calls.{roomIn, Zeroed}
+use Rattle.walk.specs.declared.Walked.{Walked}
+use Rattle.walk.specs.declared.Walked.the-variants.{Refused, Answered}
+use Rattle.walk.specs.Walk.{answerWord, answerWords, walkedOf, laidAnswers}
+
+-- one statement: its answer as one number, and nothing is left in what was lent
+pub record VerifiedWord (f : List ℕ) (p : ℕ) (pool stack places pool′ stack′ places′ : List ℕ) (word : ℕ) : Type 0 where
+  pub answers : word ≡ answerWord f (roomIn pool stack places) p
+  pub zeroed : Zeroed pool stack places pool′ stack′ places′
+
+-- number and place of a refusal of the file; or 0, 0 and how many $p there are
+unfoldable pub walkedWord : Walked → ℕ
+walkedWord (Refused why place) = packedAnswer (numberOf why) place 0
+walkedWord (Answered count) = packedAnswer 0 0 count
+
+-- all $p: how many there are, the answer of each, and nothing is left in what was lent
+pub record AllWords (f pool stack places answers pool′ stack′ places′ answers′ : List ℕ) (word : ℕ) : Type 0 where
+  pub counts : word ≡ walkedWord (walkedOf (verdict f) (database f))
+  pub lays : answers′ ≡ laidAnswers (verdict f) (answerWords f (roomIn pool stack places)) answers
+  pub zeroed : Zeroed pool stack places pool′ stack′ places′

@@ -1,0 +1,2 @@
+-- The laws of the findings.
+pub mod Finishing

@@ -1,0 +1,2 @@
+-- The laws of the index of labels.
+pub mod Chain

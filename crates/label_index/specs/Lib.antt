@@ -1,0 +1,2 @@
+-- The index of labels.
+pub mod Labelled

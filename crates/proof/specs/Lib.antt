@@ -1,0 +1,2 @@
+-- The whole proof.
+pub mod Whole

@@ -1,0 +1,3 @@
+-- The laws of the bytes.
+pub mod Byting
+pub mod Looping

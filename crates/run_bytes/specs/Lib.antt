@@ -1,0 +1,2 @@
+-- Reading the bytes of a proof's text.
+pub mod Bytes

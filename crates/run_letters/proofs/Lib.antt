@@ -1,0 +1,2 @@
+-- The laws of the letters.
+pub mod Lettering

@@ -1,0 +1,24 @@
+-- `run_letters::higher_letter` meets its contract.
+use Rattle.run_letters.proofs.Lettering.{higher-go, higher-stop}
+use borrow.Author.Needs.{needs}
+use Rattle.run_letters.proofs.higher_letter.Statement.{statement}
+use Rattle.run_letters.proofs.higher_letter.Tie as tie
+
+-- src/lib.rt:80:16
+mul-next : tie.Need-mul-next
+mul-next c = search needs
+
+-- src/lib.rt:80:16
+add-next : tie.Need-add-next
+add-next c = search needs
+
+-- src/lib.rt:82:9
+returns : tie.Need-returns
+returns c = higher-go (c .if1 .taken)
+
+-- src/lib.rt:76:1
+returns-2 : tie.Need-returns-2
+returns-2 c = higher-stop (c .if1 .left)
+
+pub higher-letter-spec : {M : Type 1} → statement M
+higher-letter-spec = tie.close (tie.spec mul-next add-next returns returns-2)

@@ -1,0 +1,111 @@
+-- `run_letters::last_letter` meets its contract.
+use Rattle.run.proofs.Running.{images-there, room-there}
+use Rattle.run_letters.proofs.Lettering.{last-go, last-stop}
+use borrow.Author.Needs.{needs}
+use Rattle.run_letters.proofs.last_letter.Statement.{statement}
+use Rattle.run_letters.proofs.last_letter.Tie as tie
+
+-- src/lib.rt:60:17
+mul-t36 : tie.Need-mul-t36
+mul-t36 c = search needs
+
+-- src/lib.rt:60:17
+add-t37 : tie.Need-add-t37
+add-t37 c = search needs
+
+-- src/lib.rt:47:11
+run-place-requires : tie.Need-run-place-requires
+run-place-requires c κs = (room-there (c .before .before .before .before .before .before .before .before .before .before .before .before .before .before .before .before .before .before .before .before .pre .0), images-there (c .before .before .before .before .before .before .before .before .before .before .before .before .before .before .before .before .before .before .before .before .pre .0))
+
+-- src/lib.rt:66:21
+enum-known-now : tie.Need-enum-known-now
+enum-known-now c = search needs
+
+-- src/lib.rt:69:20
+add-t41 : tie.Need-add-t41
+add-t41 c = search (needs, c .before .before .before .before .before .before .before .before .before .before .before .before .before .before .before .before .before .before .before .before .before .before .before .before .before .before .before .before .before .before .before .before .before .before .before .before .pre .1 .1 .1)
+
+-- src/lib.rt:71:26
+enum-known-why : tie.Need-enum-known-why
+enum-known-why c = search needs
+
+-- src/lib.rt:21:1
+same-length : tie.Need-same-length
+same-length c = search needs
+
+-- src/lib.rt:21:1
+same-length-2 : tie.Need-same-length-2
+same-length-2 c = search needs
+
+-- src/lib.rt:21:1
+same-length-3 : tie.Need-same-length-3
+same-length-3 c = search needs
+
+-- src/lib.rt:21:1
+same-length-4 : tie.Need-same-length-4
+same-length-4 c = search needs
+
+-- src/lib.rt:21:1
+same-length-5 : tie.Need-same-length-5
+same-length-5 c = search needs
+
+-- src/lib.rt:21:1
+same-length-6 : tie.Need-same-length-6
+same-length-6 c = search needs
+
+-- src/lib.rt:21:1
+returns : tie.Need-returns
+returns c = last-go (c .before .before .before .before .before .before .before .before .before .before .before .before .before .before .before .before .before .before .before .before .before .before .before .before .before .before .before .before .before .before .before .before .before .before .before .before .pre .0) (search needs) (rw (c .before .now .given .1) at (c .before .before .before .before .before .before .before .before .before .before .before .before .before .before .before .run-place .ensures))
+
+-- src/lib.rt:21:1
+same-length-7 : tie.Need-same-length-7
+same-length-7 c = search needs
+
+-- src/lib.rt:21:1
+same-length-8 : tie.Need-same-length-8
+same-length-8 c = search needs
+
+-- src/lib.rt:21:1
+same-length-9 : tie.Need-same-length-9
+same-length-9 c = search needs
+
+-- src/lib.rt:21:1
+same-length-10 : tie.Need-same-length-10
+same-length-10 c = search needs
+
+-- src/lib.rt:21:1
+same-length-11 : tie.Need-same-length-11
+same-length-11 c = search needs
+
+-- src/lib.rt:21:1
+same-length-12 : tie.Need-same-length-12
+same-length-12 c = search needs
+
+-- src/lib.rt:21:1
+returns-2 : tie.Need-returns-2
+returns-2 c = last-stop (c .before .before .before .before .before .before .before .before .before .before .before .before .before .before .before .before .before .before .before .before .before .before .before .before .before .before .before .before .before .before .before .before .before .before .before .before .pre .0) (rw (c .before .why .given .1) at (c .before .before .before .before .before .before .before .before .before .before .before .before .before .before .before .run-place .ensures))
+
+pub last-letter-spec : {M : Type 1} → statement M
+last-letter-spec =
+    tie.close
+    (tie.spec
+    mul-t36
+    add-t37
+    run-place-requires
+    enum-known-now
+    add-t41
+    enum-known-why
+    same-length
+    same-length-2
+    same-length-3
+    same-length-4
+    same-length-5
+    same-length-6
+    returns
+    same-length-7
+    same-length-8
+    same-length-9
+    same-length-10
+    same-length-11
+    same-length-12
+    returns-2)

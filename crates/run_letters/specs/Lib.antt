@@ -1,0 +1,2 @@
+-- Reading a letter.
+pub mod Letters

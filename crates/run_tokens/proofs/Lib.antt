@@ -1,0 +1,3 @@
+-- The laws of the tokens.
+pub mod Tokening
+pub mod Rostering

@@ -1,0 +1,2 @@
+-- Reading a token.
+pub mod Tokens

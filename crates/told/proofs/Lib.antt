@@ -1,0 +1,2 @@
+-- What is told of an answer.
+pub mod Telling

@@ -1,0 +1,2 @@
+-- The walk over all $p of a file.
+pub mod Walk
