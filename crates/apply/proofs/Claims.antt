@@ -32,7 +32,7 @@ use Rattle.memory.specs.declared.Counts.{Counts}
 use Rattle.memory.specs.declared.Limits.{Limits}
 use Rattle.memory.specs.declared.Outcome.{Outcome}
 use Rattle.memory.specs.declared.Outcome.the-variants.{Refused}
-use Rattle.memory.specs.Shown.{markOf, Means, withUsed, Pushes}
+use Rattle.memory.specs.Shown.{markOf, Means, withUsed, withNodes, Pushes}
 use Rattle.memory.proofs.Stored.{push-used}
 use Rattle.memory.proofs.Showing.{shown-grown, down-drop}
 use Rattle.memory.proofs.Ending.{ends-stop, ends-skip, push-ends}
@@ -95,7 +95,7 @@ module _ {f syms stmts : List ℕ} {a at : ℕ} (filed : Filed f syms stmts) (lo
   claim-shows = record { shows = λ v i var. claim-image v i var .text; defined = λ v i var. claim-image v i var .defined }
 
   -- the row of the claim stands for it as substituted
-  claim-means : {pool′ : List ℕ} {to tag end : ℕ} {row : Row} → ClaimRow f syms at sets used to tag end row → used ≤ to
+  claim-means : {pool′ : List ℕ} {to tag end word : ℕ} {row : Row} → ClaimRow f syms at sets used to tag end word row → used ≤ to
       → range used to pool′ ≡ packed (database f) (substituted (isVariable (database f)) σ (expressionOf (database f) a .symbols))
       → Means (database f) vs pool′ to row (under (isVariable (database f)) σ (expressionOf (database f) a))
   unfolding under expressionOf expression
@@ -121,16 +121,16 @@ module _ {f syms stmts : List ℕ} {a at : ℕ} (filed : Filed f syms stmts) (lo
       known-from t var (comes s m e n) = claim-image s m e .known t n var
 
 -- the pool after the claim was added: 43, or its packed text stands there
-module _ {f syms : List ℕ} {at : ℕ} {froms tos sets pool stack : List ℕ} {c : Counts} {limits : Limits} {left tag end : ℕ} {pool′ : List ℕ} (fits : limits .pool ≤ length pool)
+module _ {f syms : List ℕ} {at : ℕ} {froms tos sets pool stack : List ℕ} {c : Counts} {limits : Limits} {left tag end word nodes : ℕ} {pool′ : List ℕ} (fits : limits .pool ≤ length pool)
     (same-size : length pool′ ≡ length pool) where
   pub finalizes-full : Substitutes f syms at froms tos (c .used) (limits .pool) pool pool′ Full
-      → Finalizes f syms at froms tos sets pool stack c limits left tag end pool′ stack (Refused PoolFull)
+      → Finalizes f syms at froms tos sets pool stack c limits left tag end word nodes pool′ stack (Refused PoolFull)
   unfolding conclude conclusion under
   finalizes-full subst =
       record {
         grows = λ c′ e. let z : _≡_ {A = ℕ} 0 1 = cc in absurd (omega arith);
         pool-sized = same-size;
-        follows = λ stmts p text numbers places locals a σ xs h m filed loc asserts images depth s.
+        follows = λ stmts p text numbers places locals tree a σ xs h m filed loc asserts images depth s records.
             let adds = subst .adds a σ (filed-indexed filed) loc (claim-shows filed loc asserts σ images) in
             let full = grown-of-full _ (c .used) (limits .pool) (adds .answers) in
             let size = pack-length (database f) (substituted (isVariable (database f)) σ (expressionOf (database f) a .symbols)) in
@@ -139,14 +139,14 @@ module _ {f syms : List ℕ} {at : ℕ} {froms tos sets pool stack : List ℕ} {
       }
 
   pub finalizes-to : {to : ℕ} {row : Row} {stack′ : List ℕ} {answer : Outcome} → c .used ≤ to → Substitutes f syms at froms tos (c .used) (limits .pool) pool pool′ (To to)
-      → ClaimRow f syms at sets (c .used) to tag end row → Pushes stack (withUsed c (c .count) to) (limits .stack) left row stack′ answer
-      → Finalizes f syms at froms tos sets pool stack c limits left tag end pool′ stack′ answer
+      → ClaimRow f syms at sets (c .used) to tag end word row → Pushes stack (withNodes (withUsed c (c .count) to) nodes) (limits .stack) left row stack′ answer
+      → Finalizes f syms at froms tos sets pool stack c limits left tag end word nodes pool′ stack′ answer
   unfolding conclude conclusion under spend
   finalizes-to {to} {row} {stack′} {answer} low subst claim pushes =
       record {
         grows = λ c′ e. let u = push-used pushes e in omega arith;
         pool-sized = same-size;
-        follows = λ stmts p text numbers places locals a σ xs h m filed loc asserts images depth s.
+        follows = λ stmts p text numbers places locals tree a σ xs h m filed loc asserts images depth s records.
             let adds = subst .adds a σ (filed-indexed filed) loc (claim-shows filed loc asserts σ images) in
             let said = grown-of-to _ (c .used) (limits .pool) to (adds .answers) in
             let size = pack-length (database f) (substituted (isVariable (database f)) σ (expressionOf (database f) a .symbols)) in
@@ -158,6 +158,6 @@ module _ {f syms : List ℕ} {at : ℕ} {froms tos sets pool stack : List ℕ} {
             let grown = shown-grown s [] numbers pool′ (c .count) to (rw (append-nil (m .variables)) (s .numbered)) (s .variables-few) refl (adds .sized) (adds .kept) (omega (arith, said .0)) (said .1) in
             let now = rw (append-nil (m .variables), spent) at grown in
             ends-skip PoolFull (below-no (omega (arith, said .0, said .1)))
-            (push-ends now left h row (record { proved = conclusion (database f) a σ xs; mark = markOf text tag end }) pushes (omega arith) (down-drop h left depth (now .stack)) (claim .sized)
-            (claim-means filed loc asserts σ images claim (omega (arith, said .0)) there) (rw (claim .tag-is, claim .end-is) refl));
+            (push-ends now left h nodes row (record { proved = conclusion (database f) a σ xs; mark = markOf text tag end }) pushes (omega arith) (down-drop h left depth (now .stack)) (λ kept d. down-drop h left depth d) (claim .sized)
+            (claim-means filed loc asserts σ images claim (omega (arith, said .0)) there) (rw (claim .tag-is, claim .end-is) refl) (rw (claim .word-is) records));
       }

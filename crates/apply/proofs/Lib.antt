@@ -2,4 +2,5 @@
 pub mod OneHyp
 pub mod Processing
 pub mod Claims
+pub mod Noted
 pub mod Steps

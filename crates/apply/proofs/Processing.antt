@@ -169,11 +169,11 @@ pub record Processing (f syms stmts : List ℕ) (at : ℕ) (stack : List ℕ) (b
   pub tos-sized : length tos ≡ length tos₀
   pub sets-sized : length sets ≡ length sets₀
   pub left : (a : ℕ) (xs : List Proved) (vs : List ℕ) → Seated f syms stmts at stack base seats used pool a xs vs
-      → 4096 ≤ length froms₀ → 4096 ≤ length tos₀ → 16384 ≤ length sets₀ → (rest : Result Memory)
+      → length (database f .symbols) ≤ length froms₀ → length (database f .symbols) ≤ length tos₀ → 4 * length (database f .symbols) ≤ length sets₀ → (rest : Result Memory)
       → checkHyps (database f) (bound (database f) (statementOf (database f) a .hyps) xs) (drop j (statementOf (database f) a .hyps)) (drop j xs) rest
       ≡ checkHyps (database f) (bound (database f) (statementOf (database f) a .hyps) xs) (statementOf (database f) a .hyps) xs rest
   pub images : (a : ℕ) (xs : List Proved) (vs : List ℕ) → Seated f syms stmts at stack base seats used pool a xs vs
-      → 4096 ≤ length froms₀ → 4096 ≤ length tos₀ → 16384 ≤ length sets₀ → (g : ℕ) → g ∈ take j (statementOf (database f) a .hyps)
+      → length (database f .symbols) ≤ length froms₀ → length (database f .symbols) ≤ length tos₀ → 4 * length (database f .symbols) ≤ length sets₀ → (g : ℕ) → g ∈ take j (statementOf (database f) a .hyps)
       → isFloat (statementOf (database f) g) ≡ true
       → ImageShown (database f) vs pool used froms tos sets (floated (statementOf (database f) g))
       (bound (database f) (statementOf (database f) a .hyps) xs (floated (statementOf (database f) g)))
@@ -196,7 +196,7 @@ module _ {f syms stmts : List ℕ} {at : ℕ} {stack : List ℕ} {base : ℕ} {s
   module _ {h o : ℕ} {row : Row} {froms′ tos′ sets′ : List ℕ} {answer : Processed} (few : j < length (statementAt f at .hyps)) (h-is : h ≡ getD (statementAt f at .hyps) j 0)
       (o-is : o ≡ getD stmts h 0) (seat : SeatRow stack base seats j used row) (p : ProcessesHyp f syms o row froms tos sets pool froms′ tos′ sets′ answer) where
     module _ (a : ℕ) (xs : List Proved) (vs : List ℕ) (s : Seated f syms stmts at stack base seats used pool a xs vs)
-        (x : 4096 ≤ length froms₀) (y : 4096 ≤ length tos₀) (z : 16384 ≤ length sets₀) where
+        (x : length (database f .symbols) ≤ length froms₀) (y : length (database f .symbols) ≤ length tos₀) (z : 4 * length (database f .symbols) ≤ length sets₀) where
       db : Database
       db = database f
 
@@ -286,11 +286,8 @@ module _ {f syms stmts : List ℕ} {at : ℕ} {stack : List ℕ} {base : ℕ} {s
       kind-read : statementAt f o .kind ≡ statementOf (database f) h .kind
       kind-read = ap (λ (st : Rattle.frames.specs.Database.Statement). st .kind) (sym (located-statement loc))
 
-      floated-few : statementOf (database f) h .kind ≡ 2 → floated (statementOf (database f) h) < 4096
-      floated-few two =
-          let d = good-facts f (s .filed .good) .statement h there′ .float-variable two .defined in
-          let few = good-facts f (s .filed .good) .symbol-count in
-          omega arith
+      floated-few : statementOf (database f) h .kind ≡ 2 → floated (statementOf (database f) h) < length (database f .symbols)
+      floated-few two = good-facts f (s .filed .good) .statement h there′ .float-variable two .defined
 
       -- where the answer is fine, the variable of a $f is bound
       bound-tables : answer ≡ Fine → statementOf (database f) h .kind ≡ 2
@@ -301,6 +298,7 @@ module _ {f syms stmts : List ℕ} {at : ℕ} {stack : List ℕ} {base : ℕ} {s
           small : floated (statementAt f o) % 65536 ≡ floated (statementOf (database f) h)
           small =
               let few = floated-few two in
+              let count = good-facts f (s .filed .good) .symbol-count in
               let same-one : floated (statementAt f o) ≡ floated (statementOf (database f) h) = ap floated (sym (located-statement loc)) in
               omega arith
 

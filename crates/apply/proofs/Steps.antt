@@ -28,13 +28,16 @@ use Rattle.memory.specs.declared.Limits.{Limits}
 use Rattle.memory.specs.declared.Outcome.{Outcome}
 use Rattle.memory.specs.declared.Outcome.the-variants.{Refused}
 use Rattle.memory.specs.Shown.{bench, lent, Extends, Along, EntryShown, Shown, refuses}
-use Rattle.memory.proofs.Showing.{along-map, down-length, down-take}
+use Rattle.memory.proofs.Showing.{along-map, down-length, down-take, shown-noted}
 use Rattle.memory.proofs.Ending.{ends-by, ends-stop, ends-skip}
 use Rattle.seats.specs.declared.Seated.{Seated}
 use Rattle.seats.specs.declared.Seated.the-variants.{Done}
 use Rattle.seats.specs.declared.Seated.the-variants as seated-as
-use Rattle.seats.specs.Seats.{MarkShown, Nth, first, later, SeatShown, judged, Seating, Seats}
+use Rattle.seats.specs.Seats.{MarkShown, SeatShown, judged, Seating, Seats}
 use Rattle.seats.proofs.Seating.{nth-shown}
+use Rattle.recording.specs.declared.Noted.{Noted}
+use Rattle.recording.specs.Notes.{Notes}
+use Rattle.apply.proofs.Noted.{nth-few, records-step}
 use Rattle.apply.specs.Claim.{Finalizes}
 use Rattle.apply.specs.declared.hyps.Processed.the-variants.{Fine}
 use Rattle.apply.specs.declared.hyps.Processed.the-variants as processed-as
@@ -46,29 +49,29 @@ under-now : {f : List ℕ} {p : ℕ} {table vs : List ℕ} → Under f p table �
     → Tabled (statementOf (database f) p .pairs) vs table × ((v : ℕ) → v ∈ members (statementOf (database f) p .pairs) → v ∈ vs)
 under-now u e = (rw (e .is) (tabled-grown _ (u .known) (u .tabled)), λ v i. rw (e .is) (Memᴰ·append-left (e .more) (u .known v i)))
 
-module _ {f syms stmts : List ℕ} {at : ℕ} {table froms tos sets pool stack : List ℕ} {c : Counts} {limits : Limits} {left tag end : ℕ} where
+module _ {f syms stmts : List ℕ} {at : ℕ} {table froms tos sets pool stack : List ℕ} {c : Counts} {limits : Limits} {left tag end word nodes : ℕ} where
   pub checked-kept : {pool′ stack′ : List ℕ} {answer : Outcome} → Keeps f stmts at sets table true
-      → Finalizes f syms at froms tos sets pool stack c limits left tag end pool′ stack′ answer
-      → AppliesChecked f syms stmts at table froms tos sets pool stack c limits left tag end pool′ stack′ answer
+      → Finalizes f syms at froms tos sets pool stack c limits left tag end word nodes pool′ stack′ answer
+      → AppliesChecked f syms stmts at table froms tos sets pool stack c limits left tag end word nodes pool′ stack′ answer
   checked-kept keeps final =
       record {
         grows = final .grows;
         pool-sized = final .pool-sized;
-        follows = λ p text numbers places locals a σ xs h m filed loc asserts under images depth s.
+        follows = λ p text numbers places locals tree a σ xs h m filed loc asserts under images depth s records.
             let u = under-now under (s .begun) in
             let few = s .variables-few in
             let n = s .numbered .counts in
             ends-skip ProofDvViolation
             (no-of-true (sym (keeps .tells syms a p σ (m .variables) filed loc (omega arith) (u .0) (u .1) (λ v i. images v i .numbers) (λ v w i j var. images v i .known w j var))))
-            (final .follows stmts p text numbers places locals a σ xs h m filed loc asserts images depth s);
+            (final .follows stmts p text numbers places locals tree a σ xs h m filed loc asserts images depth s records);
       }
 
-  pub checked-broken : Keeps f stmts at sets table false → AppliesChecked f syms stmts at table froms tos sets pool stack c limits left tag end pool stack (Refused ProofDvViolation)
+  pub checked-broken : Keeps f stmts at sets table false → AppliesChecked f syms stmts at table froms tos sets pool stack c limits left tag end word nodes pool stack (Refused ProofDvViolation)
   checked-broken keeps =
       record {
         grows = λ c′ e. let z : _≡_ {A = ℕ} 0 1 = cc in absurd (omega arith);
         pool-sized = refl;
-        follows = λ p text numbers places locals a σ xs h m filed loc asserts under images depth s.
+        follows = λ p text numbers places locals tree a σ xs h m filed loc asserts under images depth s records.
             let u = under-now under (s .begun) in
             let few = s .variables-few in
             let n = s .numbered .counts in
@@ -79,7 +82,7 @@ module _ {f syms stmts : List ℕ} {at : ℕ} {table froms tos sets pool stack :
   module _ {seats froms′ tos′ sets′ : List ℕ} where
     -- a hypothesis is not as it must be
     pub seated-refused : {why : Refusal} → ProcessesHyps f syms stmts at stack left seats (c .used) froms tos sets pool froms′ tos′ sets′ (processed-as.Refused why)
-        → AppliesSeated f syms stmts at table seats froms tos sets pool stack c limits left tag end froms′ tos′ sets′ pool stack (Refused why)
+        → AppliesSeated f syms stmts at table seats froms tos sets pool stack c limits left tag end word nodes froms′ tos′ sets′ pool stack (Refused why)
     unfolding applyAssertion processed
     seated-refused p =
         record {
@@ -88,14 +91,14 @@ module _ {f syms stmts : List ℕ} {at : ℕ} {table froms tos sets pool stack :
           tos-sized = p .tos-sized;
           sets-sized = p .sets-sized;
           grows = λ c′ e. let z : _≡_ {A = ℕ} 0 1 = cc in absurd (omega arith);
-          follows = λ q text numbers places locals a xs m asserts under x y z seated depth s.
+          follows = λ q text numbers places locals tree a xs m asserts under x y z seated depth s records.
               ends-by (p .checks a xs (m .variables) _ seated x y z) refl refuses;
         }
 
     -- the hypotheses are as they must be
     pub seated-fine : {pool′ stack′ : List ℕ} {answer : Outcome} → ProcessesHyps f syms stmts at stack left seats (c .used) froms tos sets pool froms′ tos′ sets′ Fine
-        → AppliesChecked f syms stmts at table froms′ tos′ sets′ pool stack c limits left tag end pool′ stack′ answer
-        → AppliesSeated f syms stmts at table seats froms tos sets pool stack c limits left tag end froms′ tos′ sets′ pool′ stack′ answer
+        → AppliesChecked f syms stmts at table froms′ tos′ sets′ pool stack c limits left tag end word nodes pool′ stack′ answer
+        → AppliesSeated f syms stmts at table seats froms tos sets pool stack c limits left tag end word nodes froms′ tos′ sets′ pool′ stack′ answer
     unfolding applyAssertion processed
     seated-fine p checked =
         record {
@@ -104,16 +107,11 @@ module _ {f syms stmts : List ℕ} {at : ℕ} {table froms tos sets pool stack :
           tos-sized = p .tos-sized;
           sets-sized = p .sets-sized;
           grows = checked .grows;
-          follows = λ q text numbers places locals a xs m asserts under x y z seated depth s.
+          follows = λ q text numbers places locals tree a xs m asserts under x y z seated depth s records.
               ends-by (p .checks a xs (m .variables) _ seated x y z) refl
-              (checked .follows q text numbers places locals a (bound (database f) (statementOf (database f) a .hyps) xs) xs (length (statementOf (database f) a .hyps)) m (seated .filed) (seated .located)
-              asserts under (p .images a xs (m .variables) seated x y z refl) depth s);
+              (checked .follows q text numbers places locals tree a (bound (database f) (statementOf (database f) a .hyps) xs) xs (length (statementOf (database f) a .hyps)) m (seated .filed) (seated .located)
+              asserts under (p .images a xs (m .variables) seated x y z refl) depth s records);
         }
-
--- a member's position is within the list
-nth-few : {A : Type 0} {xs : List A} {i : ℕ} {x : A} → Nth xs i x → i < length xs
-nth-few (first e) = omega arith
-nth-few (later e n) = let l = nth-few n in omega arith
 
 -- the entries of the stack in their seats
 module _ {db : Database} {vs pool : List ℕ} {used : ℕ} {text stack : List ℕ} {left : ℕ} {es : List Entry} (there : Along (EntryShown db vs pool used text stack) left es) where
@@ -150,8 +148,8 @@ module _ (f syms stmts : List ℕ) (a at n : ℕ) (at-is : at ≡ getD stmts a 0
       let k = counted in
       omega arith
 
-  module _ (text numbers pool stack places locals : List ℕ) (c : Counts) (limits : Limits) (m : Memory)
-      (s : Shown (bench f syms stmts p limits text) (lent numbers pool stack places locals) c m) where
+  module _ (text numbers pool stack places locals tree : List ℕ) (c : Counts) (limits : Limits) (m : Memory)
+      (s : Shown (bench f syms stmts p limits text) (lent numbers pool stack places locals tree) c m) where
     short : c .depth < n → below (length (m .stack)) (length (statementOf (database f) a .hyps)) ≡ true
     short few = let k = counted in let d = down-length (s .stack) in below-yes (omega arith)
 
@@ -172,10 +170,10 @@ module _ (f syms stmts : List ℕ) (a at n : ℕ) (at-is : at ≡ getD stmts a 0
       passed : below (length (m .stack)) (length (statementOf (database f) a .hyps)) ≡ false
       passed = let k = counted in let d = down-length (s .stack) in below-no (omega arith)
 
-module _ {f syms stmts : List ℕ} {a at n : ℕ} {text table froms tos sets pool stack : List ℕ} {c : Counts} {limits : Limits} {tag end : ℕ} (at-is : at ≡ getD stmts a 0)
+module _ {f syms stmts : List ℕ} {a at n : ℕ} {text table froms tos sets pool stack tree : List ℕ} {c : Counts} {limits : Limits} {tag end : ℕ} (at-is : at ≡ getD stmts a 0)
     (n-is : n ≡ length (statementAt f at .hyps)) where
   -- too few entries
-  pub executes-underflow : Ranged froms tos (c .used) → c .depth < n → Executes f syms stmts a text table froms tos sets pool stack c limits tag end froms tos sets pool stack (Refused ProofUnderflow)
+  pub executes-underflow : Ranged froms tos (c .used) → c .depth < n → Executes f syms stmts a text table froms tos sets pool stack tree c limits tag end froms tos sets pool stack tree (Refused ProofUnderflow)
   unfolding runPrepared
   executes-underflow r few =
       record {
@@ -183,19 +181,21 @@ module _ {f syms stmts : List ℕ} {a at n : ℕ} {text table froms tos sets poo
         froms-sized = refl;
         tos-sized = refl;
         sets-sized = refl;
+        tree-sized = refl;
         grows = λ c′ e. let z : _≡_ {A = ℕ} 0 1 = cc in absurd (omega arith);
         follows = λ p numbers places locals m filed asked can under x y z s.
-            ends-stop _ (short f syms stmts a at n at-is n-is p filed asked can text numbers pool stack places locals c limits m s few);
+            ends-stop _ (short f syms stmts a at n at-is n-is p filed asked can text numbers pool stack places locals tree c limits m s few);
       }
 
   -- a checked file lists at most 64 hypotheses
-  pub executes-never : Ranged froms tos (c .used) → 64 < n → Executes f syms stmts a text table froms tos sets pool stack c limits tag end froms tos sets pool stack (Refused ProofUnderflow)
+  pub executes-never : Ranged froms tos (c .used) → 64 < n → Executes f syms stmts a text table froms tos sets pool stack tree c limits tag end froms tos sets pool stack tree (Refused ProofUnderflow)
   executes-never r many =
       record {
         ranged = r;
         froms-sized = refl;
         tos-sized = refl;
         sets-sized = refl;
+        tree-sized = refl;
         grows = λ c′ e. let z : _≡_ {A = ℕ} 0 1 = cc in absurd (omega arith);
         follows = λ p numbers places locals m filed asked can under x y z s.
             let few = few-hyps f syms stmts a at n at-is n-is p filed asked can in
@@ -205,7 +205,7 @@ module _ {f syms stmts : List ℕ} {a at n : ℕ} {text table froms tos sets poo
   module _ (enough : n ≤ c .depth) (small : n ≤ 64) {seats : List ℕ} where
     -- a mark is wrong
     pub executes-refused : {why : Refusal} → Ranged froms tos (c .used) → Seats f stmts at text stack (c .depth - n) n seats (seated-as.Refused why)
-        → Executes f syms stmts a text table froms tos sets pool stack c limits tag end froms tos sets pool stack (Refused why)
+        → Executes f syms stmts a text table froms tos sets pool stack tree c limits tag end froms tos sets pool stack tree (Refused why)
     unfolding runPrepared assignEntries judged
     executes-refused r seat =
         record {
@@ -213,36 +213,40 @@ module _ {f syms stmts : List ℕ} {a at n : ℕ} {text table froms tos sets poo
           froms-sized = refl;
           tos-sized = refl;
           sets-sized = refl;
+          tree-sized = refl;
           grows = λ c′ e. let z : _≡_ {A = ℕ} 0 1 = cc in absurd (omega arith);
           follows = λ p numbers places locals m filed asked can under x y z s.
-              ends-skip ProofUnderflow (passed f syms stmts a at n at-is n-is p filed asked can text numbers pool stack places locals c limits m s enough)
-              (ends-by (seating f syms stmts a at n at-is n-is p filed asked can text numbers pool stack places locals c limits m s enough seat .checks _) refl refuses);
+              ends-skip ProofUnderflow (passed f syms stmts a at n at-is n-is p filed asked can text numbers pool stack places locals tree c limits m s enough)
+              (ends-by (seating f syms stmts a at n at-is n-is p filed asked can text numbers pool stack places locals tree c limits m s enough seat .checks _) refl refuses);
         }
 
     -- each hypothesis has its entry
-    pub executes-seated : {froms′ tos′ sets′ pool′ stack′ : List ℕ} {answer : Outcome} → Seats f stmts at text stack (c .depth - n) n seats Done
-        → AppliesSeated f syms stmts at table seats froms tos sets pool stack c limits (c .depth - n) tag end froms′ tos′ sets′ pool′ stack′ answer
-        → Executes f syms stmts a text table froms tos sets pool stack c limits tag end froms′ tos′ sets′ pool′ stack′ answer
+    pub executes-seated : {froms′ tos′ sets′ pool′ stack′ tree′ : List ℕ} {noted : Noted} {answer : Outcome} → Seats f stmts at text stack (c .depth - n) n seats Done
+        → Notes at stack (c .depth - n) seats n tree (c .nodes) tree′ noted
+        → AppliesSeated f syms stmts at table seats froms tos sets pool stack c limits (c .depth - n) tag end (noted .word) (noted .nodes) froms′ tos′ sets′ pool′ stack′ answer
+        → Executes f syms stmts a text table froms tos sets pool stack tree c limits tag end froms′ tos′ sets′ pool′ stack′ tree′ answer
     unfolding runPrepared assignEntries judged
-    executes-seated seat applied =
+    executes-seated {tree′ = tree′} seat notes applied =
         record {
           ranged = applied .ranged;
           froms-sized = applied .froms-sized;
           tos-sized = applied .tos-sized;
           sets-sized = applied .sets-sized;
+          tree-sized = notes .sized;
           grows = applied .grows;
           follows = λ p numbers places locals m filed asked can under x y z s.
-              let st = seating f syms stmts a at n at-is n-is p filed asked can text numbers pool stack places locals c limits m s enough seat in
+              let st = seating f syms stmts a at n at-is n-is p filed asked can text numbers pool stack places locals tree c limits m s enough seat in
               let k = counted f syms stmts a at n at-is n-is p filed asked can in
-              let many = as-many f syms stmts a at n at-is n-is p filed asked can text numbers pool stack places locals c limits m s enough in
-              ends-skip ProofUnderflow (passed f syms stmts a at n at-is n-is p filed asked can text numbers pool stack places locals c limits m s enough)
+              let many = as-many f syms stmts a at n at-is n-is p filed asked can text numbers pool stack places locals tree c limits m s enough in
+              ends-skip ProofUnderflow (passed f syms stmts a at n at-is n-is p filed asked can text numbers pool stack places locals tree c limits m s enough)
               (ends-by (st .checks _) refl
-              (applied .follows p text numbers places locals a _ m (asserts f syms stmts a at n at-is n-is p filed asked can) under x y z
+              (applied .follows p text numbers places locals tree′ a _ m (asserts f syms stmts a at n at-is n-is p filed asked can) under x y z
               (record {
                 filed = filed;
                 located = located f syms stmts a at n at-is n-is p filed asked can;
                 many = st .sized refl ∙ k;
-                shown = seats-mean (there-are f syms stmts a at n at-is n-is p filed asked can text numbers pool stack places locals c limits m s enough) (omega arith) (st .holds refl);
+                shown = seats-mean (there-are f syms stmts a at n at-is n-is p filed asked can text numbers pool stack places locals tree c limits m s enough) (omega arith) (st .holds refl);
               })
-              (omega arith) s));
+              (omega arith) (shown-noted s tree′ (notes .sized) (notes .same))
+              (records-step (m .stack) (located f syms stmts a at n at-is n-is p filed asked can) notes k enough small _ (λ kept d. down-take (length (statementOf (database f) a .hyps)) (c .depth - n) (omega arith) d) (st .sized refl) many (st .holds refl))));
         }

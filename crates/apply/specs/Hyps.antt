@@ -1,5 +1,5 @@
 -- The hypotheses of an assertion with their entries: what each does to the table of images, and which result of the definition the answer is.
-use Prim.Native.Nat.{ℕ, _+_, _≤_, _<_, _%_}
+use Prim.Native.Nat.{ℕ, _+_, _*_, _≤_, _<_, _%_}
 use mathlib.Core.Path.{_≡_}
 use mathlib.Core.Bool.{Bool, true, false}
 use mathlib.Core.List.{List}
@@ -92,10 +92,10 @@ pub record ProcessesHyps (f syms stmts : List ℕ) (at : ℕ) (stack : List ℕ)
   pub tos-sized : length tos′ ≡ length tos
   pub sets-sized : length sets′ ≡ length sets
   pub checks : (a : ℕ) (xs : List Proved) (vs : List ℕ) (rest : Result Memory) → Seated f syms stmts at stack base seats used pool a xs vs
-      → 4096 ≤ length froms → 4096 ≤ length tos → 16384 ≤ length sets
+      → length (database f .symbols) ≤ length froms → length (database f .symbols) ≤ length tos → 4 * length (database f .symbols) ≤ length sets
       → checkHyps (database f) (bound (database f) (statementOf (database f) a .hyps) xs) (statementOf (database f) a .hyps) xs rest ≡ processed answer rest
   pub images : (a : ℕ) (xs : List Proved) (vs : List ℕ) → Seated f syms stmts at stack base seats used pool a xs vs
-      → 4096 ≤ length froms → 4096 ≤ length tos → 16384 ≤ length sets → answer ≡ Fine → (v : ℕ) → v ∈ mandatory (database f) (statementOf (database f) a .hyps)
+      → length (database f .symbols) ≤ length froms → length (database f .symbols) ≤ length tos → 4 * length (database f .symbols) ≤ length sets → answer ≡ Fine → (v : ℕ) → v ∈ mandatory (database f) (statementOf (database f) a .hyps)
       → ImageShown (database f) vs pool used froms′ tos′ sets′ v (bound (database f) (statementOf (database f) a .hyps) xs v)
 
 -- the row in seat j, with its range within the first `used` bytes

@@ -14,6 +14,7 @@ use machine::Refusal;
 use memory::Counts;
 use memory::Limits;
 use memory::Outcome;
+use recording::record_step;
 use seats::Seated;
 use seats::seat_entries;
 
@@ -34,10 +35,12 @@ fn apply_checked(
     left: usize,
     tag: usize,
     end: usize,
+    word: usize,
+    nodes: usize,
 ) -> Outcome
     requires { ⌜ ((c .used ≤ limits .pool) × (limits .pool ≤ length (now pool))) × ((10 * limits .stack ≤ length (now stack)) × (limits .stack ≤ 1024)) ⌝ }
     requires ranged { ⌜ Ranged (now froms) (now tos) (c .used) ⌝ }
-    ensures { λ r. ⌜ AppliesChecked (now (file .entry)) (now (symbols .entry)) (now (statements .entry)) at (now (table .entry)) (now (froms .entry)) (now (tos .entry)) (now (sets .entry)) (now (pool .entry)) (now (stack .entry)) c limits left tag end (now (pool .exit)) (now (stack .exit)) r ⌝ }
+    ensures { λ r. ⌜ AppliesChecked (now (file .entry)) (now (symbols .entry)) (now (statements .entry)) at (now (table .entry)) (now (froms .entry)) (now (tos .entry)) (now (sets .entry)) (now (pool .entry)) (now (stack .entry)) c limits left tag end word nodes (now (pool .exit)) (now (stack .exit)) r ⌝ }
 {
     if keeps_pairs(file, statements, at, sets, table) {
         return finalize_step(
@@ -54,6 +57,8 @@ fn apply_checked(
             left,
             tag,
             end,
+            word,
+            nodes,
         );
     }
     Outcome::Refused(Refusal::ProofDvViolation)
@@ -77,10 +82,12 @@ fn apply_seated(
     left: usize,
     tag: usize,
     end: usize,
+    word: usize,
+    nodes: usize,
 ) -> Outcome
     requires { ⌜ ((c .used ≤ limits .pool) × (limits .pool ≤ length (now pool))) × ((10 * limits .stack ≤ length (now stack)) × (limits .stack ≤ 1024)) ⌝ }
     requires ranged { ⌜ (Ranged (now froms) (now tos) (c .used) × (length (now froms) ≤ length (now tos))) × ((c .used < 4294967296) × (left ≤ 1024)) ⌝ }
-    ensures { λ r. ⌜ AppliesSeated (now (file .entry)) (now (symbols .entry)) (now (statements .entry)) at (now (table .entry)) (now (seats .entry)) (now (froms .entry)) (now (tos .entry)) (now (sets .entry)) (now (pool .entry)) (now (stack .entry)) c limits left tag end (now (froms .exit)) (now (tos .exit)) (now (sets .exit)) (now (pool .exit)) (now (stack .exit)) r ⌝ }
+    ensures { λ r. ⌜ AppliesSeated (now (file .entry)) (now (symbols .entry)) (now (statements .entry)) at (now (table .entry)) (now (seats .entry)) (now (froms .entry)) (now (tos .entry)) (now (sets .entry)) (now (pool .entry)) (now (stack .entry)) c limits left tag end word nodes (now (froms .exit)) (now (tos .exit)) (now (sets .exit)) (now (pool .exit)) (now (stack .exit)) r ⌝ }
 {
     let used = c.used;
     match process_hyps(
@@ -114,6 +121,8 @@ fn apply_seated(
             left,
             tag,
             end,
+            word,
+            nodes,
         ),
     }
 }
@@ -132,6 +141,7 @@ pub fn execute_step(
     sets: &mut [u64],
     pool: &mut [u8],
     stack: &mut [u64],
+    tree: &mut [u64],
     c: Counts,
     limits: Limits,
     tag: usize,
@@ -139,7 +149,8 @@ pub fn execute_step(
 ) -> Outcome
     requires { ⌜ ((c .used ≤ limits .pool) × (limits .pool ≤ length (now pool))) × ((10 * limits .stack ≤ length (now stack)) × (limits .stack ≤ 1024)) ⌝ }
     requires ranged { ⌜ (Ranged (now froms) (now tos) (c .used) × (length (now froms) ≤ length (now tos))) × ((c .used < 4294967296) × ((c .depth ≤ 1024) × (64 ≤ length (now seats)))) ⌝ }
-    ensures { λ r. ⌜ Executes (now (file .entry)) (now (symbols .entry)) (now (statements .entry)) (a .0) (now (text .entry)) (now (table .entry)) (now (froms .entry)) (now (tos .entry)) (now (sets .entry)) (now (pool .entry)) (now (stack .entry)) c limits tag end (now (froms .exit)) (now (tos .exit)) (now (sets .exit)) (now (pool .exit)) (now (stack .exit)) r ⌝ }
+    requires recorded { ⌜ length (now tree) ≤ 131072 ⌝ }
+    ensures { λ r. ⌜ Executes (now (file .entry)) (now (symbols .entry)) (now (statements .entry)) (a .0) (now (text .entry)) (now (table .entry)) (now (froms .entry)) (now (tos .entry)) (now (sets .entry)) (now (pool .entry)) (now (stack .entry)) (now (tree .entry)) c limits tag end (now (froms .exit)) (now (tos .exit)) (now (sets .exit)) (now (pool .exit)) (now (stack .exit)) (now (tree .exit)) r ⌝ }
 {
     let at = fields::statement_offset(statements, a);
     let n = fields::hypotheses(file, at);
@@ -152,23 +163,28 @@ pub fn execute_step(
     }
     match seat_entries(file, statements, at, text, stack, depth - n, n, seats) {
         Seated::Refused(because) => Outcome::Refused(because),
-        Seated::Done => apply_seated(
-            file,
-            symbols,
-            statements,
-            at,
-            table,
-            seats,
-            froms,
-            tos,
-            sets,
-            pool,
-            stack,
-            c,
-            limits,
-            depth - n,
-            tag,
-            end,
-        ),
+        Seated::Done => {
+            let noted = record_step(at, stack, depth - n, seats, n, tree, c.nodes);
+            apply_seated(
+                file,
+                symbols,
+                statements,
+                at,
+                table,
+                seats,
+                froms,
+                tos,
+                sets,
+                pool,
+                stack,
+                c,
+                limits,
+                depth - n,
+                tag,
+                end,
+                noted.word,
+                noted.nodes,
+            )
+        }
     }
 }

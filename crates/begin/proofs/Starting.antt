@@ -21,6 +21,7 @@ use Rattle.variables.proofs.Floats.{floats-few, floats-mandatory}
 use Rattle.resolve.specs.Filed.{Filed}
 use Rattle.resolve.specs.Locals.{localsOf}
 use Rattle.resolve.proofs.Filing.{filed-statement}
+use Rattle.tree.specs.Recorded.{start}
 use Rattle.memory.specs.declared.Counts.{Counts}
 use Rattle.memory.specs.declared.Limits.{Limits}
 use Rattle.memory.specs.declared.Outcome.the-variants.{Go, Refused}
@@ -29,13 +30,13 @@ use Rattle.memory.proofs.Ending.{ends-stop, ends-skip}
 use Rattle.begin.specs.Begins.{Unnumbered, Roomy, Begins}
 use Rattle.begin.proofs.Firsts.{mandatory-first, mandatory-below, members-below, located-statement}
 
-none-numbered : {numbers : List ℕ} → Unnumbered numbers → Numbered numbers 0 []
+none-numbered : {f numbers : List ℕ} → Unnumbered f numbers → Numbered numbers 0 []
 unfolding tag among any pick
 none-numbered u = record { counts = refl; tags = λ v l. u .zeros v }
 
 -- the counts at the start: nothing is used but the variables
 abbrev begun : ℕ → Counts
-begun count = record { used = 0; count = count; places = 0; locals = 0; depth = 0 }
+begun count = record { used = 0; count = count; places = 0; locals = 0; depth = 0; nodes = 0 }
 
 module _ {f syms stmts : List ℕ} {p at : ℕ} (w : Filed f syms stmts) (loc : Located f p at) where
   facts : StatementFacts (database f) p (statementOf (database f) p)
@@ -70,7 +71,7 @@ module _ {f syms stmts : List ℕ} {p at : ℕ} (w : Filed f syms stmts) (loc : 
       members-below (length (database f .symbols)) (statementOf (database f) p .pairs) (λ q i. (facts .pair-first q i .defined, facts .pair-second q i .defined))
 
   -- both in turn number the first variables
-  pub firsts-numbered : {numbers between numbers′ : List ℕ} {mandatory count : ℕ} → Unnumbered numbers
+  pub firsts-numbered : {numbers between numbers′ : List ℕ} {mandatory count : ℕ} → Unnumbered f numbers
       → MapsAll numbers 0 (floatsAt f stmts (statementAt f at .hyps)) between mandatory
       → MapsAll between mandatory (members (statementAt f at .pairs)) numbers′ count
       → Numbered numbers′ count (firstVariables (database f) p)
@@ -90,7 +91,7 @@ module _ {f stmts : List ℕ} {at : ℕ} {text numbers : List ℕ} where
   begins-bad bad =
       record {
         sized = refl;
-        follows = λ syms p limits pool stack places locals w loc u r. ends-stop _ bad;
+        follows = λ syms p limits pool stack places locals tree w loc u r. ends-stop _ bad;
         numbered = λ syms p c w loc u e. let z : _≡_ {A = ℕ} 0 1 = cc in absurd (omega arith);
       }
 
@@ -101,7 +102,7 @@ module _ {f stmts : List ℕ} {at : ℕ} {text numbers : List ℕ} where
     begins-never many =
         record {
           sized = floats .sized;
-          follows = λ syms p limits pool stack places locals w loc u r. absurd (let few = floats .few in let limit = floats-limit w loc in omega arith);
+          follows = λ syms p limits pool stack places locals tree w loc u r. absurd (let few = floats .few in let limit = floats-limit w loc in omega arith);
           numbered = λ syms p c w loc u e. let z : _≡_ {A = ℕ} 0 1 = cc in absurd (omega arith);
         }
 
@@ -112,7 +113,7 @@ module _ {f stmts : List ℕ} {at : ℕ} {text numbers : List ℕ} where
       begins-many many =
           record {
             sized = pairs .sized ∙ floats .sized;
-            follows = λ syms p limits pool stack places locals w loc u r.
+            follows = λ syms p limits pool stack places locals tree w loc u r.
                 let counted = firsts-numbered w loc u floats pairs .counts in
                 ends-skip BadByte good (ends-stop _ (below-yes (omega arith)));
             numbered = λ syms p c w loc u e. let z : _≡_ {A = ℕ} 0 1 = cc in absurd (omega arith);
@@ -124,19 +125,19 @@ module _ {f stmts : List ℕ} {at : ℕ} {text numbers : List ℕ} where
       begins-go few =
           record {
             sized = pairs .sized ∙ floats .sized;
-            follows = λ syms p limits pool stack places locals w loc u r.
+            follows = λ syms p limits pool stack places locals tree w loc u r.
                 let held = firsts-numbered w loc u floats pairs in
                 let counted = held .counts in
-                ends-skip BadByte good (ends-skip TooManyVariables (below-no (omega arith)) (goes (shown syms p limits pool stack places locals w loc u r held)));
+                ends-skip BadByte good (ends-skip TooManyVariables (below-no (omega arith)) (goes (shown syms p limits pool stack places locals tree w loc u r held)));
             numbered = λ syms p c w loc u e.
                 let same : begun count ≡ c = cc in
                 rw (← same) (firsts-numbered w loc u floats pairs);
           }
         where
-          shown : (syms : List ℕ) (p : ℕ) (limits : Limits) (pool stack places locals : List ℕ) → Filed f syms stmts → Located f p at → Unnumbered numbers
-              → Roomy limits pool stack places locals → Numbered numbers′ count (firstVariables (database f) p)
-              → Shown (bench f syms stmts p limits text) (lent numbers′ pool stack places locals) (begun count) (fresh (firstVariables (database f) p))
-          shown syms p limits pool stack places locals w loc u r held =
+          shown : (syms : List ℕ) (p : ℕ) (limits : Limits) (pool stack places locals tree : List ℕ) → Filed f syms stmts → Located f p at → Unnumbered f numbers
+              → Roomy limits pool stack places locals tree → Numbered numbers′ count (firstVariables (database f) p)
+              → Shown (bench f syms stmts p limits text) (lent numbers′ pool stack places locals tree) (begun count) (fresh (firstVariables (database f) p))
+          shown syms p limits pool stack places locals tree w loc u r held =
               record {
                 numbered = held;
                 variables-few = few;
@@ -158,4 +159,7 @@ module _ {f stmts : List ℕ} {at : ℕ} {text numbers : List ℕ} where
                 locals = refl;
                 locals-few = omega arith;
                 locals-sized = r .locals-sized;
+                tree-limit = r .tree-limit;
+                nodes-few = omega arith;
+                derivations = λ enough. record { kept = []; recorded = start refl; on-stack = bottom; in-places = ends };
               }

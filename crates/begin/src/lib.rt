@@ -30,5 +30,6 @@ pub fn begin(file: &[u8], statements: &[u32], at: u32, text: &[u8], numbers: &mu
         places: 0,
         locals: 0,
         depth: 0,
+        nodes: 0,
     })
 }

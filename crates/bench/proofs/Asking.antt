@@ -78,9 +78,12 @@ module _ {f syms stmts : List ℕ} (w : Filed f syms stmts) (p : ℕ) where
             let size = good-facts f (w .good) .statement p inside .text-size (sym (kind-is e) ∙ five) in
             rw (sym text-is) at size
 
+        -- the answer is that of the run
+        pub proof-run : (room : Room) → ended (run (database f) p (limited room) text) ≡ answerGood (database f) p room
+        unfolding answerGood
+        proof-run room =
+            ap (λ (x : List ℕ). ended (run (database f) p (limited room) x)) text-is ∙ pick-first _ (equal-yes (sym (kind-is e) ∙ five)) refl
+
         pub proof-answers : {t : Told} (room : Room) → Says (ended (run (database f) p (limited room) text)) t
             → Says (answerGood (database f) p room) t
-        unfolding answerGood
-        proof-answers room s =
-            says-same (ap (λ (x : List ℕ). ended (run (database f) p (limited room) x)) text-is
-            ∙ pick-first _ (equal-yes (sym (kind-is e) ∙ five)) refl) s
+        proof-answers room s = says-same (proof-run room) s

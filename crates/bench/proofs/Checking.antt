@@ -71,6 +71,10 @@ module _ {f syms stmts syms′ stmts′ : List ℕ} {v : Verdict} (ch : Checked 
         }
 
     -- the answer for a good file
+    pub good-is : (p : ℕ) (room : Room) → answerGood (database f) p room ≡ answer f p room
+    unfolding answer judged
+    good-is p room = rw (sym (ch .answers) ∙ is)
+
     pub good-says : (p : ℕ) (room : Room) {t : Told} → Says (answerGood (database f) p room) t → Says (answer f p room) t
     unfolding answer judged
     good-says p room s = rw (sym (ch .answers) ∙ is) s

@@ -13,6 +13,8 @@ use Rattle.machine.specs.Run.{run}
 use Rattle.memory.specs.declared.Limits.{Limits}
 use Rattle.memory.specs.Shown.{roomOf}
 use Rattle.resolve.specs.Filed.{Filed}
+use Rattle.facts.proofs.Decoded.{database-symbols}
+use Rattle.facts.proofs.GoodFacts.{good-facts}
 use Rattle.resolve.proofs.Filing.{filed-length}
 use Rattle.begin.specs.Begins.{Unnumbered, Roomy}
 use Rattle.disjoint.specs.Disjoint.{Cleared}
@@ -23,15 +25,15 @@ use Rattle.proof.specs.Whole.{Blank}
 use Rattle.findings.specs.declared.Answer.{Answer}
 use Rattle.told.specs.declared.Told.{Told}
 use Rattle.told.specs.Says.{Says, SaysAs, roomLent}
-use Rattle.bench.specs.Ours.{Ours}
+use Rattle.bench.specs.Ours.{Ours, Cut}
 
 -- a cleared table
 module _ (xs : List ℕ) {ys : List ℕ} (is : ys ≡ cleared xs) where
   cleared-size : length ys ≡ length xs
   cleared-size = ap length is ∙ length-replicate {0} {A = ℕ} (length xs) 0
 
-  cleared-numbers : length xs ≡ 4096 → Unnumbered ys
-  cleared-numbers size = record { zeros = cleared-zeros xs is; sized = omega (arith, cleared-size) }
+  cleared-numbers : (f : List ℕ) → length xs ≡ length (database f .symbols) → Unnumbered f ys
+  cleared-numbers f size = record { zeros = cleared-zeros xs is; sized = omega (arith, cleared-size) }
 
   cleared-pairs : length xs ≡ 1024 → Cleared ys
   cleared-pairs size = record { sized = cleared-size ∙ size; zero = cleared-zeros xs is }
@@ -57,9 +59,9 @@ module _ (limits : Limits) (pool stack places : ℕ) (is : roomOf limits ≡ lim
   unfolding limited roomLent
   places-limit = ap (λ (r : Room). r .places) is
 
-roomy : (limits : Limits) (pool stack places locals : List ℕ) → 12288 ≤ length locals
-    → roomOf limits ≡ limited (roomLent (length pool) (length stack) (length places)) → Roomy limits pool stack places locals
-roomy limits pool stack places locals size is =
+roomy : (limits : Limits) (pool stack places locals tree : List ℕ) → 12288 ≤ length locals → length tree ≤ 131072
+    → roomOf limits ≡ limited (roomLent (length pool) (length stack) (length places)) → Roomy limits pool stack places locals tree
+roomy limits pool stack places locals tree size few is =
     let p = pool-limit limits _ _ _ is in
     let s = stack-limit limits _ _ _ is in
     let q = places-limit limits _ _ _ is in
@@ -70,34 +72,57 @@ roomy limits pool stack places locals size is =
       places-limit = omega arith;
       places-sized = omega arith;
       locals-sized = size;
+      tree-limit = few;
     }
 
-module _ (f syms stmts text table seats froms tos sets numbers pool stack places locals : List ℕ) (p : ℕ) {limits : Limits}
+-- the index has as many symbols as the file
+pub filed-width : {f syms stmts : List ℕ} → Filed f syms stmts → length syms ≡ length (database f .symbols)
+filed-width {f} w = ap length (w .symbols) ∙ sym (database-symbols f)
+
+pub width-few : {f syms stmts : List ℕ} → Filed f syms stmts → length syms ≤ 4096
+width-few {f} w = let few = good-facts f (w .good) .symbol-count in let width = filed-width w in omega arith
+
+-- so much of our tables
+pub cut : (syms : List ℕ) {table seats froms tos sets numbers locals froms′ tos′ sets′ numbers′ : List ℕ} → Ours table seats froms tos sets numbers locals → length froms′ ≡ length syms
+    → length tos′ ≡ length syms → length sets′ ≡ 4 * length syms → length numbers′ ≡ length syms → Cut (length syms) table seats froms′ tos′ sets′ numbers′ locals
+cut syms o a b d e =
+    record {
+      table-size = o .table-size;
+      seats-size = o .seats-size;
+      froms-size = a;
+      tos-size = b;
+      sets-size = d;
+      numbers-size = e;
+      locals-size = o .locals-size;
+    }
+
+module _ (f syms stmts text table seats froms tos sets numbers pool stack places locals tree : List ℕ) (p : ℕ) {limits : Limits}
     {table′ froms′ tos′ numbers′ : List ℕ} where
-  pub blank : Filed f syms stmts → (p < length stmts) × (length text ≤ 65536) → Ours table seats froms tos sets numbers locals
+  pub blank : Filed f syms stmts → (p < length stmts) × (length text ≤ 65536) → Cut (length syms) table seats froms tos sets numbers locals → length tree ≤ 131072
       → table′ ≡ cleared table → froms′ ≡ cleared froms → tos′ ≡ cleared tos → numbers′ ≡ cleared numbers
       → roomOf limits ≡ limited (roomLent (length pool) (length stack) (length places))
-      → Blank (env f syms stmts p text table′ limits) (tables seats froms′ tos′ sets numbers′ pool stack places locals)
-  blank w a o et ef eo en is =
+      → Blank (env f syms stmts p text table′ limits) (tables seats froms′ tos′ sets numbers′ pool stack places locals tree)
+  blank w a o few et ef eo en is =
+      let width = filed-width w in
       record {
         filed = w;
         asked = omega (arith, filed-length w, a .0);
         text-few = a .1;
         small = omega (arith, pool-limit limits _ _ _ is);
-        numbers = cleared-numbers numbers en (o .numbers-size);
+        numbers = cleared-numbers numbers en f (o .numbers-size ∙ width);
         table = cleared-pairs table et (o .table-size);
-        roomy = roomy limits pool stack places locals (o .locals-size) is;
+        roomy = roomy limits pool stack places locals tree (o .locals-size) few is;
         sized = record {
           seats = o .seats-size;
-          froms = cleared-size froms ef ∙ o .froms-size;
-          tos = cleared-size tos eo ∙ o .tos-size;
-          sets = o .sets-size;
+          froms = cleared-size froms ef ∙ (o .froms-size ∙ width);
+          tos = cleared-size tos eo ∙ (o .tos-size ∙ width);
+          sets = o .sets-size ∙ ap (λ (k : ℕ). 4 * k) width;
           ranged = cleared-ranges froms tos ef eo;
         };
       }
 
 -- what is told of the proof's answer is the answer of the run
-pub proof-says : (f text : List ℕ) (p : ℕ) {limits : Limits} {room : Room} {answer : Answer} {t : Told} → roomOf limits ≡ room
-    → Tells (run (database f) p (roomOf limits) text) answer → SaysAs answer t → Says (ended (run (database f) p room text)) t
-proof-says f text p is tells says =
-    rw is at (says .says _ tells)
+pub proof-says : (f text entries : List ℕ) (p : ℕ) {limits : Limits} {room : Room} {answer : Answer} {t : Told} → roomOf limits ≡ room
+    → Tells f entries (run (database f) p (roomOf limits) text) answer → SaysAs answer t → Says (ended (run (database f) p room text)) t
+proof-says f text entries p is tells says =
+    rw is at (says .says f entries _ tells)

@@ -11,7 +11,7 @@ ghost use Rattle.machine.specs.Run.{run};
 ghost use Rattle.resolve.specs.Filed.{Filed};
 ghost use Rattle.label_index.specs.Labelled.{Labelled};
 ghost use Rattle.told.specs.Says.{Says, roomLent};
-ghost use Rattle.bench.specs.Ours.{Ours};
+ghost use Rattle.bench.specs.Ours.{Ours, Cut};
 use clearing::clear_words32;
 use clearing::clear_words64;
 use frames::fields;
@@ -21,7 +21,68 @@ use told::Told;
 use told::limits_of;
 use told::tell;
 
-// The proof of statement p, a $p, whose text is this. Our tables are cleared first.
+// Room for no derivation: one tree entry, which holds at most an application without hypotheses.
+fn no_tree() -> [u64; 1]
+    ensures { λ r. ⌜ length r ≡ 1 ⌝ }
+{
+    [0; 1]
+}
+
+// The proof of statement p, a $p, whose text is this, over tables that have an entry for each symbol of the file. The disjoint pairs, the numbers and the ranges of the
+// images are cleared first.
+fn run_proof(
+    file: &[u8],
+    symbols: &[u32],
+    statements: &[u32],
+    labels: &[u32],
+    p: StatementNo,
+    text: &[u8],
+    table: &mut [u64],
+    seats: &mut [u32],
+    froms: &mut [u32],
+    tos: &mut [u32],
+    sets: &mut [u64],
+    numbers: &mut [u32],
+    pool: &mut [u8],
+    stack: &mut [u64],
+    places: &mut [u64],
+    locals: &mut [u32],
+) -> Told
+    requires { ⌜ Labelled (now file) (now statements) (now labels) ⌝ }
+    requires filed { ⌜ Filed (now file) (now symbols) (now statements) ⌝ }
+    requires asked { ⌜ (p .0 < length (now statements)) × (length (now text) ≤ 65536) ⌝ }
+    requires cut { ⌜ Cut (length (now symbols)) (now table) (now seats) (now froms) (now tos) (now sets) (now numbers) (now locals) ⌝ }
+    ensures { λ r. ⌜ Says (ended (run (database (now (file .entry))) (p .0) (limited (roomLent (length (now (pool .entry))) (length (now (stack .entry))) (length (now (places .entry))))) (now (text .entry)))) r ⌝ }
+{
+    clear_words64(table);
+    clear_words32(froms);
+    clear_words32(tos);
+    clear_words32(numbers);
+    let mut tree = no_tree();
+    let limits = limits_of(pool.len(), stack.len(), places.len());
+    tell(verify_proof(
+        file,
+        symbols,
+        statements,
+        labels,
+        p,
+        text,
+        table,
+        seats,
+        froms,
+        tos,
+        sets,
+        numbers,
+        pool,
+        stack,
+        places,
+        locals,
+        &mut tree,
+        limits,
+    ))
+}
+
+// The proof of statement p, a $p, whose text is this: as much of our tables as the file has symbols is used.
 fn answer_proof(
     file: &[u8],
     symbols: &[u32],
@@ -46,12 +107,8 @@ fn answer_proof(
     requires ours { ⌜ Ours (now table) (now seats) (now froms) (now tos) (now sets) (now numbers) (now locals) ⌝ }
     ensures { λ r. ⌜ Says (ended (run (database (now (file .entry))) (p .0) (limited (roomLent (length (now (pool .entry))) (length (now (stack .entry))) (length (now (places .entry))))) (now (text .entry)))) r ⌝ }
 {
-    clear_words64(table);
-    clear_words32(froms);
-    clear_words32(tos);
-    clear_words32(numbers);
-    let limits = limits_of(pool.len(), stack.len(), places.len());
-    tell(verify_proof(
+    let n = symbols.len();
+    run_proof(
         file,
         symbols,
         statements,
@@ -60,16 +117,15 @@ fn answer_proof(
         text,
         table,
         seats,
-        froms,
-        tos,
-        sets,
-        numbers,
+        &mut froms[..n],
+        &mut tos[..n],
+        &mut sets[..4 * n],
+        &mut numbers[..n],
         pool,
         stack,
         places,
         locals,
-        limits,
-    ))
+    )
 }
 
 // Statement p: 8 where it is no $p or there is none, else the answer to its proof.

@@ -1,6 +1,10 @@
 -- The calls' answers as one number each.
 use Prim.Native.Nat.{ℕ}
 use mathlib.Core.Path.{_≡_}
+use lib.ListN.{length}
+use Rattle.clearing.specs.Cleared.{cleared}
+use Rattle.frames.specs.Verdict.{laid}
+use Rattle.longform.specs.LongForm.{LongAnswer, longAnswer}
 use mathlib.Core.List.{List}
 use Rattle.frames.specs.Verdict.{numberOf, verdict}
 use Rattle.frames.specs.Database.{database}
@@ -25,3 +29,14 @@ pub record AllWords (f pool stack places answers pool′ stack′ places′ answ
   pub counts : word ≡ walkedWord (walkedOf (verdict f) (database f))
   pub lays : answers′ ≡ laidAnswers (verdict f) (answerWords f (roomIn pool stack places)) answers
   pub zeroed : Zeroed pool stack places pool′ stack′ places′
+
+-- an answer of the long-form call as one number
+unfoldable pub longWord : LongAnswer → ℕ
+longWord a = packedAnswer (a .number) (a .place) (a .steps)
+
+-- the long form of one statement's proof: its answer as one number, its text in front of the output, and nothing is left in what was lent for the run
+pub record LongWord (f : List ℕ) (p : ℕ) (pool stack places tree output pool′ stack′ places′ tree′ output′ : List ℕ) (word : ℕ) : Type 0 where
+  pub answers : word ≡ longWord (longAnswer f p (roomIn pool stack places) (length tree) (length output))
+  pub written : output′ ≡ laid (longAnswer f p (roomIn pool stack places) (length tree) (length output) .text) output
+  pub zeroed : Zeroed pool stack places pool′ stack′ places′
+  pub tree-zero : tree′ ≡ cleared tree

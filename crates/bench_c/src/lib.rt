@@ -4,9 +4,11 @@
 //       uint64_t *stack, size_t stack_length, uint64_t *places, size_t places_length);
 //   uint64_t bench_verify_all(const uint8_t *file, size_t file_length, uint64_t *answers, size_t answers_length, uint8_t *pool, size_t pool_length,
 //       uint64_t *stack, size_t stack_length, uint64_t *places, size_t places_length);
+//   uint64_t bench_long(const uint8_t *file, size_t file_length, size_t statement, uint8_t *pool, size_t pool_length, uint64_t *stack, size_t stack_length,
+//       uint64_t *places, size_t places_length, uint64_t *tree, size_t tree_length, uint8_t *output, size_t output_length);
 ghost use mathlib.Core.Path.{_≡_};
 ghost use Prim.Native.Nat.{_<_};
-ghost use Rattle.bench_c.specs.Words.{VerifiedWord, AllWords};
+ghost use Rattle.bench_c.specs.Words.{VerifiedWord, AllWords, LongWord};
 use answers::pack;
 use walk::Walked;
 
@@ -40,4 +42,21 @@ pub extern "C" fn bench_verify_all(
         Walked::Refused { why, place } => pack(frames::number(why), place, 0),
         Walked::Answered(count) => pack(0, 0, count),
     }
+}
+
+// The long form of one statement's proof.
+#[no_mangle]
+pub extern "C" fn bench_long(
+    file: &[u8],
+    statement: usize,
+    pool: &mut [u8],
+    stack: &mut [u64],
+    places: &mut [u64],
+    tree: &mut [u64],
+    output: &mut [u8],
+) -> u64
+    ensures { λ r. ⌜ LongWord (now (file .entry)) statement (now (pool .entry)) (now (stack .entry)) (now (places .entry)) (now (tree .entry)) (now (output .entry)) (now (pool .exit)) (now (stack .exit)) (now (places .exit)) (now (tree .exit)) (now (output .exit)) r ⌝ }
+{
+    let told = long::long_form(file, statement, pool, stack, places, tree, output);
+    pack(told.number, told.place, told.steps)
 }

@@ -103,6 +103,9 @@ shown-labelled {b} {l} {c} {c′} {m} {m′} from to label is s t one adds =
       locals = rw (s .locals, ← s .placed, is) (sym (adds .adds (b .text)));
       locals-few = let few = s .locals-few in let before = s .placed in let after = t .placed in omega arith;
       locals-sized = let sized = s .locals-sized in let same = adds .sized in omega arith;
+      tree-limit = t .tree-limit;
+      nodes-few = t .nodes-few;
+      derivations = t .derivations;
     }
 
 -- what is found among the labels of the memory

@@ -19,7 +19,7 @@ pub record LaysLocal (locals : List ℕ) (c : Counts) (from to : ℕ) (locals′
 
 -- the counts with so many local labels
 abbrev pub withLocals : Counts → ℕ → Counts
-withLocals c n = record { used = c .used; count = c .count; places = c .places; locals = n; depth = c .depth }
+withLocals c n = record { used = c .used; count = c .count; places = c .places; locals = n; depth = c .depth; nodes = c .nodes }
 
 -- an outcome that goes on with n local labels
 unfoldable pub labelled : ℕ → Outcome → Outcome
@@ -34,7 +34,7 @@ pub record SavesLabelled (stack places : List ℕ) (c : Counts) (limit : ℕ) (p
 
 -- the tables with these local labels and these places
 abbrev pub withLabelled : Lent → List ℕ → List ℕ → Lent
-withLabelled l locals places = lent (l .numbers) (l .pool) (l .stack) places locals
+withLabelled l locals places = lent (l .numbers) (l .pool) (l .stack) places locals (l .tree)
 
 -- the local label from `from` up to `to` in the text is given as the definition gives it
 pub record GivesLocal (text : List ℕ) (from to : ℕ) (stack locals places : List ℕ) (c : Counts) (limit : ℕ) (locals′ places′ : List ℕ) (answer : Outcome) : Type 0 where

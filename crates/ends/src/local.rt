@@ -36,6 +36,7 @@ fn save_labelled(stack: &[u64], places: &mut [u64], c: Counts, limit: usize) -> 
             places: now.places,
             locals: c.locals + 1,
             depth: now.depth,
+            nodes: now.nodes,
         }),
     }
 }

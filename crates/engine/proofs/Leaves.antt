@@ -100,7 +100,7 @@ module _ (db : Database) (p h : ℕ) (facts : Facts db) (there : h < length (db 
 pub leaf-means : {f syms : List ℕ} {p h at : ℕ} {vs numbers pool : List ℕ} {count from to tag end : ℕ} {row : Row}
     → Indexed f syms → Located f h at → p < length (database f .statements) → Supposable (database f) p h
     → ((v : ℕ) → v ∈ mandatory (database f) (statementOf (database f) p .hyps) → v ∈ vs)
-    → Numbered numbers count (numberedBy (statementOf (database f) h) vs) → count ≤ 256 → 4096 ≤ length numbers
+    → Numbered numbers count (numberedBy (statementOf (database f) h) vs) → count ≤ 256 → length (database f .symbols) ≤ length numbers
     → LeafRow f syms numbers at from to tag end row → from ≤ to → range from to pool ≡ packed (database f) (expressionOf (database f) h .symbols)
     → Means (database f) (numberedBy (statementOf (database f) h) vs) pool to row (expressionOf (database f) h)
 unfolding expressionOf expression size

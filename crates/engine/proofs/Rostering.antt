@@ -43,7 +43,8 @@ frame-placed {places} {a} {c} {limit} {row} adds head tag four =
       follows = λ b l m limit-is places-is may s.
           let fits = s .places-sized in
           place-ends s row (applies a) (rw (limit-is, places-is) adds)
-          (λ free. applied row (row-new row (c .places) (l .places) (omega arith) four) tag head (may .earlier) (may .kind));
+          (λ free. applied row (row-new row (c .places) (l .places) (omega arith) four) tag head (may .earlier) (may .kind))
+          (λ free d. applied);
     }
 
 -- a statement of the file, by the offset in the table
@@ -68,11 +69,11 @@ module _ {f syms stmts : List ℕ} {p : ℕ} {label : List ℕ} {step : Prepared
   roster-hypothesis {h} e offset placed =
       record {
         taken = placed .taken;
-        follows = λ text stack locals m w asked s.
+        follows = λ text stack locals tree m w asked s.
             let may = prep .sensible syms w asked .hypothesis h e in
             let before = may .earlier in
             ends-by (named limits m prep e w asked) refl
-            (placed .follows stmts p text stack locals (h .0) m (filed-indexed w) asked (located-at w (omega arith) offset) may s);
+            (placed .follows stmts p text stack locals tree (h .0) m (filed-indexed w) asked (located-at w (omega arith) offset) may s);
       }
 
   -- a $a or $p
@@ -92,9 +93,9 @@ module _ {f syms stmts : List ℕ} {p : ℕ} {label : List ℕ} {step : Prepared
               depth = refl;
               used = omega arith;
             });
-        follows = λ text stack locals m w asked s.
+        follows = λ text stack locals tree m w asked s.
             ends-by (named limits m prep e w asked) refl
-            ((rw is at placed) .follows (bench f syms stmts p limits text) (lent numbers pool stack places locals) m refl refl (prep .sensible syms w asked .frame a e) s);
+            ((rw is at placed) .follows (bench f syms stmts p limits text) (lent numbers pool stack places locals tree) m refl refl (prep .sensible syms w asked .frame a e) s);
       }
 
   -- 25, 29, 30
@@ -104,7 +105,7 @@ module _ {f syms stmts : List ℕ} {p : ℕ} {label : List ℕ} {step : Prepared
   roster-refused e =
       record {
         taken = λ c′ q. let z : _≡_ {A = ℕ} 0 1 = cc in absurd (omega arith);
-        follows = λ text stack locals m w asked s. ends-by (named limits m prep e w asked) refl refuses;
+        follows = λ text stack locals tree m w asked s. ends-by (named limits m prep e w asked) refl refuses;
       }
 
   -- it is no place
@@ -137,9 +138,9 @@ getD-there (x ∷ xs) (suc i) few = List·Memᴰ·tail (getD-there xs i (omega a
 
 -- a memory that is shown now, from which what is left is what the whole is from m
 pub record PreloadedTo (f syms stmts : List ℕ) (p : ℕ) (limits : Limits) (text : List ℕ) (hyps : List ℕ) (m : Memory) (i : ℕ)
-    (numbers pool stack places locals : List ℕ) (c : Counts) : Type 0 where
+    (numbers pool stack places locals tree : List ℕ) (c : Counts) : Type 0 where
   pub memory : Memory
-  pub shown : Shown (bench f syms stmts p limits text) (lent numbers pool stack places locals) c memory
+  pub shown : Shown (bench f syms stmts p limits text) (lent numbers pool stack places locals tree) c memory
   pub left : preload (database f) (roomOf limits) (drop i hyps) memory ≡ preload (database f) (roomOf limits) hyps m
 
 -- so far: i places more are taken, and what is left is what the whole is
@@ -150,9 +151,9 @@ pub record Preloading (f syms stmts : List ℕ) (at : ℕ) (limits : Limits) (nu
   pub places-sized : length places ≡ length places₀
   pub few : i ≤ length (statementAt f at .hyps)
   pub taken : Taken limits c₀ i c
-  pub goes-on : (p : ℕ) (text stack locals : List ℕ) (m : Memory) → Filed f syms stmts → Located f p at
-      → Shown (bench f syms stmts p limits text) (lent numbers₀ pool₀ stack places₀ locals) c₀ m
-      → PreloadedTo f syms stmts p limits text (statementAt f at .hyps) m i numbers pool stack places locals c
+  pub goes-on : (p : ℕ) (text stack locals tree : List ℕ) (m : Memory) → Filed f syms stmts → Located f p at
+      → Shown (bench f syms stmts p limits text) (lent numbers₀ pool₀ stack places₀ locals tree) c₀ m
+      → PreloadedTo f syms stmts p limits text (statementAt f at .hyps) m i numbers pool stack places locals tree c
 
 pub preload-none : {f syms stmts : List ℕ} {at : ℕ} {limits : Limits} {numbers pool places : List ℕ} {c : Counts} → Bounded limits c
     → Preloading f syms stmts at limits numbers pool places c 0 numbers pool places c
@@ -163,7 +164,7 @@ preload-none bounds =
       places-sized = refl;
       few = omega arith;
       taken = record { bounded = bounds; places = omega arith; locals = refl; depth = refl; used = omega arith };
-      goes-on = λ p text stack locals m w loc s. record { memory = m; shown = s; left = refl };
+      goes-on = λ p text stack locals tree m w loc s. record { memory = m; shown = s; left = refl };
     }
 
 module _ {f syms stmts : List ℕ} {at : ℕ} {limits : Limits} {numbers₀ pool₀ places₀ : List ℕ} {c₀ : Counts} {i : ℕ} {numbers pool places : List ℕ} {c : Counts}
@@ -172,19 +173,19 @@ module _ {f syms stmts : List ℕ} {at : ℕ} {limits : Limits} {numbers₀ pool
   module _ (rest : i < length (statementAt f at .hyps)) {h o : ℕ} {numbers′ pool′ places′ : List ℕ} {answer : Outcome}
       (placed : PlacesHypothesis f syms o numbers pool places c limits numbers′ pool′ places′ answer) (is : h ≡ getD (statementAt f at .hyps) i 0)
       (offset : o ≡ getD stmts h 0) where
-    module _ (p : ℕ) (text stack locals : List ℕ) (m : Memory) (w : Filed f syms stmts) (loc : Located f p at)
-        (s : Shown (bench f syms stmts p limits text) (lent numbers₀ pool₀ stack places₀ locals) c₀ m) where
-      reached : PreloadedTo f syms stmts p limits text (statementAt f at .hyps) m i numbers pool stack places locals c
-      reached = so-far .goes-on p text stack locals m w loc s
+    module _ (p : ℕ) (text stack locals tree : List ℕ) (m : Memory) (w : Filed f syms stmts) (loc : Located f p at)
+        (s : Shown (bench f syms stmts p limits text) (lent numbers₀ pool₀ stack places₀ locals tree) c₀ m) where
+      reached : PreloadedTo f syms stmts p limits text (statementAt f at .hyps) m i numbers pool stack places locals tree c
+      reached = so-far .goes-on p text stack locals tree m w loc s
 
-      one : Ends (Shown (bench f syms stmts p limits text) (lent numbers′ pool′ stack places′ locals))
+      one : Ends (Shown (bench f syms stmts p limits text) (lent numbers′ pool′ stack places′ locals tree))
           (bind (prepareHypothesis (database f) (roomOf limits) (reached .memory) h) (addReady (roomOf limits))) answer
       one =
           let listed : h ∈ statementOf (database f) p .hyps = rw (located-statement loc, is) (getD-there (statementAt f at .hyps) i rest) in
           let may = listed-supposable w (loc .there) listed in
           let before = may .earlier in
           let inside = loc .there in
-          placed .follows stmts p text stack locals h (reached .memory) (filed-indexed w) (loc .there) (located-at w (omega arith) offset) may (reached .shown)
+          placed .follows stmts p text stack locals tree h (reached .memory) (filed-indexed w) (loc .there) (located-at w (omega arith) offset) may (reached .shown)
 
       whole : {r : Result Memory} → bind (prepareHypothesis (database f) (roomOf limits) (reached .memory) h) (addReady (roomOf limits)) ≡ r
           → preload (database f) (roomOf limits) (statementAt f at .hyps) m ≡ bind r (preload (database f) (roomOf limits) (drop (i + 1) (statementAt f at .hyps)))
@@ -204,9 +205,9 @@ module _ {f syms stmts : List ℕ} {at : ℕ} {limits : Limits} {numbers₀ pool
           places-sized = places-sized;
           few = omega arith;
           taken = taken-more (so-far .taken) (placed .taken c′ e);
-          goes-on = λ p text stack locals m w loc s.
-              let now = ends-go (ends-by refl (sym e) (one p text stack locals m w loc s)) in
-              record { memory = now .0; shown = now .2; left = sym (whole p text stack locals m w loc s (now .1)) };
+          goes-on = λ p text stack locals tree m w loc s.
+              let now = ends-go (ends-by refl (sym e) (one p text stack locals tree m w loc s)) in
+              record { memory = now .0; shown = now .2; left = sym (whole p text stack locals tree m w loc s (now .1)) };
         }
 
     -- 44, 43, 46
@@ -215,9 +216,9 @@ module _ {f syms stmts : List ℕ} {at : ℕ} {limits : Limits} {numbers₀ pool
     preload-stop e =
         record {
           taken = λ c′ q. let z : _≡_ {A = ℕ} 0 1 = cc in absurd (omega arith);
-          follows = λ p text stack locals m w loc s.
-              let told = ends-refused (ends-by refl (sym e) (one p text stack locals m w loc s)) in
-              ends-by (rw (located-statement loc) (whole p text stack locals m w loc s told)) refl refuses;
+          follows = λ p text stack locals tree m w loc s.
+              let told = ends-refused (ends-by refl (sym e) (one p text stack locals tree m w loc s)) in
+              ends-by (rw (located-statement loc) (whole p text stack locals tree m w loc s told)) refl refuses;
         }
 
   -- all of them have a place
@@ -229,7 +230,7 @@ module _ {f syms stmts : List ℕ} {at : ℕ} {limits : Limits} {numbers₀ pool
             let same : c′ ≡ c = cc in
             let all-of-them : i ≡ length (statementAt f at .hyps) = let few = so-far .few in omega arith in
             rw (same, ← all-of-them) (so-far .taken);
-        follows = λ p text stack locals m w loc s.
-            let now = so-far .goes-on p text stack locals m w loc s in
+        follows = λ p text stack locals tree m w loc s.
+            let now = so-far .goes-on p text stack locals tree m w loc s in
             ends-by (rw (located-statement loc) (sym (rw (drop-of-length-le (statementAt f at .hyps) done) at (now .left)))) refl (goes (now .shown));
       }

@@ -1,5 +1,5 @@
 -- A step by its place: which result of the definition the answer is, for every memory that the tables show.
-use Prim.Native.Nat.{ℕ, _≤_, _<_}
+use Prim.Native.Nat.{ℕ, _*_, _≤_, _<_}
 use mathlib.Core.Path.{_≡_}
 use mathlib.Core.List.{List}
 use lib.ListN.{length}
@@ -24,15 +24,16 @@ markedRow row tag end =
     record { head = row .head; from = row .from; to = row .to; tag = tag; end = end; node = row .node; vars = row .vars }
 
 -- the step at place k
-pub record RunsPlace (f syms stmts text table froms tos sets pool stack places : List ℕ) (k : ℕ) (c : Counts) (limits : Limits) (tag end : ℕ)
-    (froms′ tos′ sets′ pool′ stack′ : List ℕ) (answer : Outcome) : Type 0 where
+pub record RunsPlace (f syms stmts text table froms tos sets pool stack tree places : List ℕ) (k : ℕ) (c : Counts) (limits : Limits) (tag end : ℕ)
+    (froms′ tos′ sets′ pool′ stack′ tree′ : List ℕ) (answer : Outcome) : Type 0 where
   pub ranged : Ranged froms′ tos′ (c .used)
   pub froms-sized : length froms′ ≡ length froms
   pub tos-sized : length tos′ ≡ length tos
   pub sets-sized : length sets′ ≡ length sets
+  pub tree-sized : length tree′ ≡ length tree
   pub grows : (c′ : Counts) → answer ≡ Go c′ → c .used ≤ c′ .used
   pub follows : (p : ℕ) (numbers locals : List ℕ) (m : Memory) → Filed f syms stmts → p < length (database f .statements) → Under f p table
-      → 4096 ≤ length froms → 4096 ≤ length tos → 16384 ≤ length sets
-      → Shown (bench f syms stmts p limits text) (lent numbers pool stack places locals) c m
-      → Ends (Shown (bench f syms stmts p limits text) (lent numbers pool′ stack′ places locals))
+      → length (database f .symbols) ≤ length froms → length (database f .symbols) ≤ length tos → 4 * length (database f .symbols) ≤ length sets
+      → Shown (bench f syms stmts p limits text) (lent numbers pool stack places locals tree) c m
+      → Ends (Shown (bench f syms stmts p limits text) (lent numbers pool′ stack′ places locals tree′))
       (bind (preparePlace m k) (runReady (database f) p (roomOf limits) (markOf text tag end))) answer

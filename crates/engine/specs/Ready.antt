@@ -1,5 +1,5 @@
 -- What making a hypothesis ready and putting it to use does, said of the definition of a run, for every memory that the tables show.
-use Prim.Native.Nat.{ℕ, _+_, _≤_, _<_}
+use Prim.Native.Nat.{ℕ, _+_, _*_, _≤_, _<_}
 use mathlib.Core.Path.{_≡_}
 use mathlib.Core.List.{List}
 use lib.ListN.{length, drop}
@@ -20,13 +20,14 @@ use Rattle.memory.specs.declared.Outcome.the-variants.{Go}
 use Rattle.memory.specs.Shown.{roomOf, bench, lent, markOf, Shown, Ends}
 use Rattle.engine.specs.RawSet.{RawGathered}
 
--- the row of a hypothesis: its typecode, the range that its symbols take, and the set of its variables
+-- the row of a hypothesis: its typecode, the range that its symbols take, the word of its derivation, and the set of its variables
 pub record LeafRow (f syms table : List ℕ) (at from to tag end : ℕ) (row : Row) : Type 0 where
   pub head : row .head ≡ typecode (statementAt f at)
   pub from-is : row .from ≡ from
   pub to-is : row .to ≡ to
   pub tag-is : row .tag ≡ tag
   pub end-is : row .end ≡ end
+  pub word-is : row .node ≡ 2 * at
   pub vars : RawGathered f syms table (drop 1 (symbolsAt f at)) (row .vars .words)
   pub sized : length (row .vars .words) ≡ 4
 
@@ -48,18 +49,18 @@ pub record Taken (limits : Limits) (c : Counts) (n : ℕ) (c′ : Counts) : Type
 pub record PlacesHypothesis (f syms : List ℕ) (at : ℕ) (numbers pool places : List ℕ) (c : Counts) (limits : Limits)
     (numbers′ pool′ places′ : List ℕ) (answer : Outcome) : Type 0 where
   pub taken : (c′ : Counts) → answer ≡ Go c′ → Taken limits c 1 c′
-  pub follows : (stmts : List ℕ) (p : ℕ) (text stack locals : List ℕ) (h : ℕ) (m : Memory) → Indexed f syms → p < length (database f .statements) → Located f h at
+  pub follows : (stmts : List ℕ) (p : ℕ) (text stack locals tree : List ℕ) (h : ℕ) (m : Memory) → Indexed f syms → p < length (database f .statements) → Located f h at
       → Supposable (database f) p h
-      → Shown (bench f syms stmts p limits text) (lent numbers pool stack places locals) c m
-      → Ends (Shown (bench f syms stmts p limits text) (lent numbers′ pool′ stack places′ locals))
+      → Shown (bench f syms stmts p limits text) (lent numbers pool stack places locals tree) c m
+      → Ends (Shown (bench f syms stmts p limits text) (lent numbers′ pool′ stack places′ locals tree))
       (bind (prepareHypothesis (database f) (roomOf limits) m h) (addReady (roomOf limits))) answer
 
 -- it is pushed as the definition says
 pub record PushesHypothesis (f syms : List ℕ) (at : ℕ) (numbers pool stack : List ℕ) (c : Counts) (limits : Limits) (tag end : ℕ)
     (numbers′ pool′ stack′ : List ℕ) (answer : Outcome) : Type 0 where
   pub grows : (c′ : Counts) → answer ≡ Go c′ → c .used ≤ c′ .used
-  pub follows : (stmts : List ℕ) (p : ℕ) (text places locals : List ℕ) (h : ℕ) (m : Memory) → Indexed f syms → p < length (database f .statements) → Located f h at
+  pub follows : (stmts : List ℕ) (p : ℕ) (text places locals tree : List ℕ) (h : ℕ) (m : Memory) → Indexed f syms → p < length (database f .statements) → Located f h at
       → Supposable (database f) p h
-      → Shown (bench f syms stmts p limits text) (lent numbers pool stack places locals) c m
-      → Ends (Shown (bench f syms stmts p limits text) (lent numbers′ pool′ stack′ places locals))
+      → Shown (bench f syms stmts p limits text) (lent numbers pool stack places locals tree) c m
+      → Ends (Shown (bench f syms stmts p limits text) (lent numbers′ pool′ stack′ places locals tree))
       (bind (prepareHypothesis (database f) (roomOf limits) m h) (runReady (database f) p (roomOf limits) (markOf text tag end))) answer

@@ -28,16 +28,16 @@ pub record PlacesFrame (places : List ℕ) (a : ℕ) (c : Counts) (limit : ℕ) 
 pub record PreparesRoster (f syms stmts : List ℕ) (p : ℕ) (label numbers pool places : List ℕ) (c : Counts) (limits : Limits)
     (numbers′ pool′ places′ : List ℕ) (answer : Outcome) : Type 0 where
   pub taken : (c′ : Counts) → answer ≡ Go c′ → Taken limits c 1 c′
-  pub follows : (text stack locals : List ℕ) (m : Memory) → Filed f syms stmts → p < length (database f .statements)
-      → Shown (bench f syms stmts p limits text) (lent numbers pool stack places locals) c m
-      → Ends (Shown (bench f syms stmts p limits text) (lent numbers′ pool′ stack places′ locals))
+  pub follows : (text stack locals tree : List ℕ) (m : Memory) → Filed f syms stmts → p < length (database f .statements)
+      → Shown (bench f syms stmts p limits text) (lent numbers pool stack places locals tree) c m
+      → Ends (Shown (bench f syms stmts p limits text) (lent numbers′ pool′ stack places′ locals tree))
       (prepareRoster (database f) p (roomOf limits) m label) answer
 
 -- the listed hypotheses of the statement at `at` take places as the definition says
 pub record Preloads (f syms stmts : List ℕ) (at : ℕ) (numbers pool places : List ℕ) (c : Counts) (limits : Limits) (numbers′ pool′ places′ : List ℕ)
     (answer : Outcome) : Type 0 where
   pub taken : (c′ : Counts) → answer ≡ Go c′ → Taken limits c (length (statementAt f at .hyps)) c′
-  pub follows : (p : ℕ) (text stack locals : List ℕ) (m : Memory) → Filed f syms stmts → Located f p at
-      → Shown (bench f syms stmts p limits text) (lent numbers pool stack places locals) c m
-      → Ends (Shown (bench f syms stmts p limits text) (lent numbers′ pool′ stack places′ locals))
+  pub follows : (p : ℕ) (text stack locals tree : List ℕ) (m : Memory) → Filed f syms stmts → Located f p at
+      → Shown (bench f syms stmts p limits text) (lent numbers pool stack places locals tree) c m
+      → Ends (Shown (bench f syms stmts p limits text) (lent numbers′ pool′ stack places′ locals tree))
       (preload (database f) (roomOf limits) (statementOf (database f) p .hyps) m) answer

@@ -45,6 +45,7 @@ pub fn run_place(
     sets: &mut [u64],
     pool: &mut [u8],
     stack: &mut [u64],
+    tree: &mut [u64],
     places: &[u64],
     k: PlaceNo,
     c: Counts,
@@ -54,7 +55,8 @@ pub fn run_place(
 ) -> Outcome
     requires { ⌜ ((c .used ≤ limits .pool) × (limits .pool ≤ length (now pool))) × ((10 * limits .stack ≤ length (now stack)) × (limits .stack ≤ 1024)) ⌝ }
     requires ranged { ⌜ ((Ranged (now froms) (now tos) (c .used) × (length (now froms) ≤ length (now tos))) × ((c .used < 4294967296) × ((c .depth ≤ 1024) × (64 ≤ length (now seats))))) × (c .places ≤ 4096) ⌝ }
-    ensures { λ r. ⌜ RunsPlace (now (file .entry)) (now (symbols .entry)) (now (statements .entry)) (now (text .entry)) (now (table .entry)) (now (froms .entry)) (now (tos .entry)) (now (sets .entry)) (now (pool .entry)) (now (stack .entry)) (now (places .entry)) (k .0) c limits tag end (now (froms .exit)) (now (tos .exit)) (now (sets .exit)) (now (pool .exit)) (now (stack .exit)) r ⌝ }
+    requires recorded { ⌜ length (now tree) ≤ 131072 ⌝ }
+    ensures { λ r. ⌜ RunsPlace (now (file .entry)) (now (symbols .entry)) (now (statements .entry)) (now (text .entry)) (now (table .entry)) (now (froms .entry)) (now (tos .entry)) (now (sets .entry)) (now (pool .entry)) (now (stack .entry)) (now (tree .entry)) (now (places .entry)) (k .0) c limits tag end (now (froms .exit)) (now (tos .exit)) (now (sets .exit)) (now (pool .exit)) (now (stack .exit)) (now (tree .exit)) r ⌝ }
 {
     let n = k.0;
     if c.places <= n {
@@ -77,6 +79,7 @@ pub fn run_place(
         sets,
         pool,
         stack,
+        tree,
         c,
         limits,
         tag,

@@ -14,7 +14,7 @@ use memory::stack::add_place;
 use memory::stack::push;
 use memory::table::Row;
 
-// The row of the hypothesis at `at`, whose symbols stand in the pool from `from` up to `to`.
+// The row of the hypothesis at `at`, whose symbols stand in the pool from `from` up to `to`. The word of its derivation is twice its offset.
 fn leaf_row(
     file: &[u8],
     symbols: &[u32],
@@ -35,7 +35,7 @@ fn leaf_row(
         to: to,
         tag: tag,
         end: end,
-        node: 0,
+        node: 2 * at as usize,
         vars: vars,
     }
 }
@@ -66,6 +66,7 @@ pub fn place_hypothesis(
                 places: c.places,
                 locals: c.locals,
                 depth: c.depth,
+                nodes: c.nodes,
             };
             add_place(places, now, limits.places, row)
         }
@@ -100,6 +101,7 @@ pub fn push_hypothesis(
                 places: c.places,
                 locals: c.locals,
                 depth: c.depth,
+                nodes: c.nodes,
             };
             push(stack, next, limits.stack, c.depth, leaf)
         }

@@ -1,5 +1,5 @@
 -- What a proof comes to: the answer tells what the definition's run ends with.
-use Prim.Native.Nat.{ℕ}
+use Prim.Native.Nat.{ℕ, _+_, _≤_}
 use mathlib.Core.Path.{_≡_}
 use mathlib.Core.List.{List}
 use Rattle.book.specs.Book.{Tree}
@@ -9,7 +9,9 @@ use Rattle.machine.specs.declared.Refusal.{Refusal}
 use Rattle.machine.specs.Chain.{Result, stop}
 use Rattle.machine.specs.Memory.{Proved, Memory}
 use Rattle.machine.specs.Run as machine
+use lib.ListN.{length}
 use Rattle.packed.specs.Lists.{Located}
+use Rattle.tree.specs.Recorded.{Held}
 use Rattle.resolve.specs.Filed.{Filed}
 use Rattle.memory.specs.declared.Counts.{Counts}
 use Rattle.memory.specs.Shown.{Shown}
@@ -22,10 +24,11 @@ use Rattle.run.specs.Reads.{modeOf}
 use Rattle.findings.specs.declared.Answer.{Answer}
 use Rattle.findings.specs.declared.Answer.the-variants.{Accepted, Refused}
 
--- accepted alike, or refused alike
-pub data Tells : machine.State → Answer → Type 0 where
-  accepts : {place steps consumed : ℕ} {tree : Tree} → Tells (machine.over (accepted place steps consumed tree)) (Accepted place steps)
-  refuses : {x : Stopped} → Tells (machine.over (refused (x .why) (x .place) (x .steps))) (Refused x)
+-- accepted alike, and then the tree entries hold the derivation, where they suffice; or refused alike
+pub data Tells (f entries : List ℕ) : machine.State → Answer → Type 0 where
+  accepts : {place steps consumed word nodes : ℕ} {tree : Tree} → nodes ≤ steps + consumed → (nodes ≤ length entries → Held f entries nodes word tree)
+      → Tells f entries (machine.over (accepted place steps consumed tree)) (Accepted place steps word nodes)
+  refuses : {x : Stopped} → Tells f entries (machine.over (refused (x .why) (x .place) (x .steps))) (Refused x)
 
 -- the mode at the end: 21, 22, else what follows
 pub record ChecksMode (mode : Mode) (answer : Ended) : Type 0 where
@@ -33,12 +36,12 @@ pub record ChecksMode (mode : Mode) (answer : Ended) : Type 0 where
   pub passes : answer ≡ ended.Accepted → (rest : Result Proved) → machine.unfinished (modeOf mode) rest ≡ rest
 
 -- the answer of an end
-unfoldable pub answerOf : Ended → ℕ → ℕ → Answer
-answerOf ended.Accepted place steps = Accepted place steps
-answerOf (ended.Refused why) place steps = Refused (record { why = why; place = place; steps = steps })
+unfoldable pub answerOf : Ended → ℕ → ℕ → ℕ → ℕ → Answer
+answerOf ended.Accepted place steps word nodes = Accepted place steps word nodes
+answerOf (ended.Refused why) place steps word nodes = Refused (record { why = why; place = place; steps = steps })
 
 -- the findings at the end of the text, in this mode
 pub record Closes (f syms : List ℕ) (at : ℕ) (stack pool : List ℕ) (c : Counts) (mode : Mode) (place steps : ℕ) (answer : Answer) : Type 0 where
   pub tells : (e : Env) (t : Tables) (m : Memory) → e .file ≡ f → t .stack ≡ stack → t .pool ≡ pool → Filed f syms (e .statements) → Located f (e .asked) at
       → m .steps ≡ steps → Shown (benchOf e) (lentOf t) c m
-      → Tells (machine.finish (database f) (e .asked) place (modeOf mode) m) answer
+      → Tells f (t .tree) (machine.finish (database f) (e .asked) place (modeOf mode) m) answer

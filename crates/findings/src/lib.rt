@@ -6,12 +6,18 @@ use ends::end::Ended;
 use ends::end::check_end;
 use machine::Refusal;
 use memory::Counts;
+use memory::table::word_at;
 use run::Mode;
 use run_bytes::Stopped;
 
-// The proof is accepted, at this place and after so many steps; or it is refused.
+// The proof is accepted, at this place and after so many steps, with the word of its derivation and the tree entries that hold it; or it is refused.
 pub enum Answer {
-    Accepted { place: usize, steps: usize },
+    Accepted {
+        place: usize,
+        steps: usize,
+        word: u64,
+        nodes: usize,
+    },
     Refused(Stopped),
 }
 
@@ -33,16 +39,21 @@ fn check_mode(mode: Mode) -> Ended
 }
 
 // The answer of an end: accepted, or refused, at this place and after so many steps.
-fn settled(ended: Ended, place: usize, steps: usize) -> Answer
-    ensures { λ r. ⌜ r ≡ answerOf ended place steps ⌝ }
+fn settled(ended: Ended, place: usize, steps: usize, word: u64, nodes: usize) -> Answer
+    ensures { λ r. ⌜ r ≡ answerOf ended place steps word nodes ⌝ }
 {
     match ended {
-        Ended::Accepted => Answer::Accepted { place, steps },
+        Ended::Accepted => Answer::Accepted {
+            place,
+            steps,
+            word,
+            nodes,
+        },
         Ended::Refused(why) => Answer::Refused(Stopped { why, place, steps }),
     }
 }
 
-// The findings at the end of the text: 21, 22, then 39 to 42.
+// The findings at the end of the text: 21, 22, then 39 to 42. The word of the derivation is the sixth of the lowest row.
 pub fn finish(
     file: &[u8],
     symbols: &[u32],
@@ -56,8 +67,17 @@ pub fn finish(
 ) -> Answer
     ensures { λ r. ⌜ Closes (now (file .entry)) (now (symbols .entry)) at (now (stack .entry)) (now (pool .entry)) c mode place steps r ⌝ }
 {
+    let word = word_at(stack, 5);
     match check_mode(mode) {
-        Ended::Refused(why) => settled(Ended::Refused(why), place, steps),
-        Ended::Accepted => settled(check_end(file, symbols, at, stack, pool, c), place, steps),
+        Ended::Refused(why) => settled(Ended::Refused(why), place, steps, word, c.nodes),
+        Ended::Accepted => {
+            settled(
+                check_end(file, symbols, at, stack, pool, c),
+                place,
+                steps,
+                word,
+                c.nodes,
+            )
+        }
     }
 }

@@ -8,6 +8,7 @@ ghost use Rattle.frames.specs.Database.{symbolAt, statementAt};
 ghost use Rattle.frames.specs.Search.{FindsSymbol, FindsStatement};
 use crate::numbers::StatementNo;
 use crate::numbers::SymbolNo;
+use crate::read::u16_at;
 use crate::record;
 use crate::refer;
 use crate::refer::Pair;
@@ -63,7 +64,7 @@ pub fn scope_end(file: &[u8], at: u32) -> usize
 pub fn label(file: &[u8], at: u32) -> &[u8]
     ensures { λ r. ⌜ now r ≡ statementAt (now (file .entry)) at .label ⌝ }
 {
-    record::rest_at(file, at)
+    record::any_rest_at(file, at)
 }
 
 // How many hypotheses a statement lists.
@@ -111,6 +112,9 @@ pub fn symbol(file: &[u8], at: u32, i: usize) -> SymbolNo
 pub fn typecode(file: &[u8], at: u32) -> SymbolNo
     ensures { λ r. ⌜ r .0 ≡ getD (statementAt (now (file .entry)) at .symbols) 0 0 ⌝ }
 {
+    if record::kind_at(file, at) == 2 {
+        return SymbolNo(u16_at(file, at as usize + 10));
+    }
     refer::symbol(file, at, 0)
 }
 
@@ -118,6 +122,9 @@ pub fn typecode(file: &[u8], at: u32) -> SymbolNo
 pub fn variable(file: &[u8], at: u32) -> SymbolNo
     ensures { λ r. ⌜ r .0 ≡ getD (statementAt (now (file .entry)) at .symbols) 1 0 ⌝ }
 {
+    if record::kind_at(file, at) == 2 {
+        return SymbolNo(u16_at(file, at as usize + 12));
+    }
     refer::symbol(file, at, 1)
 }
 
@@ -128,7 +135,7 @@ pub fn proof_text(file: &[u8], at: u32) -> &[u8]
 {
     if record::kind_at(file, at) == 5 {
         let next = record::next_at(file, at);
-        return record::rest_at(file, next as u32);
+        return record::any_rest_at(file, next as u32);
     }
     &file[..0]
 }

@@ -127,17 +127,35 @@ pub fn pairs_from(file: &[u8], at: u32) -> usize
     lists_from(file, at) + 4 * hyp_count(file, at)
 }
 
-pub fn listed_from(file: &[u8], at: u32) -> usize
+// Where the symbols of any record begin.
+fn any_listed_from(file: &[u8], at: u32) -> usize
     ensures { λ r. ⌜ (r ≡ listedFrom (now (file .entry)) at) × (r < 4295600000) ⌝ }
 {
     pairs_from(file, at) + 4 * pair_count(file, at)
+}
+
+// The same; those of a $e, $a or $p, whose counts are in the file, are found by one test of the length.
+pub fn listed_from(file: &[u8], at: u32) -> usize
+    ensures { λ r. ⌜ (r ≡ listedFrom (now (file .entry)) at) × (r < 4295600000) ⌝ }
+{
+    let o = at as usize;
+    if o + 9 < file.len() {
+        let kind = kind_at(file, at);
+        if kind == 3 {
+            return o + 12;
+        }
+        if is_assertion(kind) {
+            return o + 12 + 4 * u16_at(file, o + 6) + 4 * u16_at(file, o + 8);
+        }
+    }
+    any_listed_from(file, at)
 }
 
 // A name, a label or a proof's text takes the rest of the body.
 pub fn rest_from(file: &[u8], at: u32) -> usize
     ensures { λ r. ⌜ (r ≡ restFrom (now (file .entry)) at) × (r < 2 ^ 33) ⌝ }
 {
-    listed_from(file, at) + 2 * listed_count(file, at)
+    any_listed_from(file, at) + 2 * listed_count(file, at)
 }
 
 pub fn rest_size(file: &[u8], at: u32) -> usize
@@ -164,15 +182,26 @@ fn symbol_name(file: &[u8], at: u32) -> &[u8]
     part(file, from, 0)
 }
 
-pub fn rest_at(file: &[u8], at: u32) -> &[u8]
+// The name, label or text of any record.
+pub fn any_rest_at(file: &[u8], at: u32) -> &[u8]
     ensures { λ r. ⌜ now r ≡ restAt (now (file .entry)) at ⌝ }
 {
-    if kind_at(file, at) == 1 {
-        return symbol_name(file, at);
-    }
     let from = rest_from(file, at);
     let size = rest_size(file, at);
     part(file, from, size)
+}
+
+// The same; a symbol's name is found without counting lists.
+pub fn rest_at(file: &[u8], at: u32) -> &[u8]
+    ensures { λ r. ⌜ now r ≡ restAt (now (file .entry)) at ⌝ }
+{
+    let o = at as usize;
+    if o + 5 < file.len() {
+        if kind_at(file, at) == 1 {
+            return symbol_name(file, at);
+        }
+    }
+    any_rest_at(file, at)
 }
 
 // The symbols of a statement, the typecode first; those of a $f are its typecode and its variable.

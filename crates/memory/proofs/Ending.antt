@@ -3,6 +3,7 @@ use Prim.Native.Nat.{ℕ, _≤_, _<_}
 use mathlib.Core.Path.{_≡_, refl, sym, _∙_, ap}
 use mathlib.Core.Bool.{Bool, true, false}
 use mathlib.Core.List.{List}
+use native.Mathlib.Omega.{arith}
 use lib.ListN.{length}
 use Rattle.frames.specs.Logic.{atMost, pick}
 use Rattle.frames.specs.Database.{database}
@@ -11,12 +12,13 @@ use Rattle.machine.specs.declared.Refusal.{Refusal}
 use Rattle.machine.specs.declared.Refusal.the-variants.{StackFull, PlacesFull}
 use Rattle.machine.specs.Chain.{Result, fine, stop, unless}
 use Rattle.machine.specs.Memory.{Prepared, Entry, Memory, push, addPlace}
+use Rattle.tree.specs.Recorded.{Applications, Denotes}
 use Rattle.memory.specs.declared.table.Row.{Row}
 use Rattle.memory.specs.declared.Counts.{Counts}
 use Rattle.memory.specs.declared.Outcome.{Outcome}
 use Rattle.memory.specs.declared.Outcome.the-variants.{Go, Refused}
 use Rattle.memory.specs.Table.{withRow}
-use Rattle.memory.specs.Shown.{Bench, Lent, Down, Means, markOf, EntryShown, PlaceShown, Shown, Ends, goes, refuses, withStack, withPlacesTable, placed, Pushes, AddsPlace}
+use Rattle.memory.specs.Shown.{Bench, Lent, Down, Means, markOf, EntryShown, PlaceShown, NodeShown, NodePlaced, Derivations, Holding, Records, Shown, Ends, goes, refuses, withNodes, withStack, withPlacesTable, placed, Pushes, AddsPlace}
 use Rattle.memory.proofs.Showing.{down-length, shown-pushed, shown-placed}
 
 module _ {P : Counts → Memory → Type 0} where
@@ -42,13 +44,16 @@ module _ {P : Counts → Memory → Type 0} where
 
 module _ {b : Bench} {l : Lent} {c : Counts} {m : Memory} (s : Shown b l c m) where
   -- a row over the first k entries, or 45
-  pub push-ends : (k h : ℕ) (row : Row) {left : List Entry} (entry : Entry) {stack′ : List ℕ} {answer : Outcome}
-      → Pushes (l .stack) c (b .room .stack) k row stack′ answer → k ≤ c .depth
-      → Down (EntryShown (database (b .file)) (m .variables) (l .pool) (c .used) (b .text) (l .stack)) k left → length (row .vars .words) ≡ 4
+  pub push-ends : (k h n : ℕ) (row : Row) {left : List Entry} (entry : Entry) {stack′ : List ℕ} {answer : Outcome}
+      → Pushes (l .stack) (withNodes c n) (b .room .stack) k row stack′ answer → k ≤ c .depth
+      → Down (EntryShown (database (b .file)) (m .variables) (l .pool) (c .used) (b .text) (l .stack)) k left
+      → ((kept : Applications) → Down (NodeShown (b .file) kept (l .stack)) (c .depth) (m .stack) → Down (NodeShown (b .file) kept (l .stack)) k left)
+      → length (row .vars .words) ≡ 4
       → Means (database (b .file)) (m .variables) (l .pool) (c .used) row (entry .proved .expression) → markOf (b .text) (row .tag) (row .end) ≡ entry .mark
+      → Records (b .file) (l .tree) (c .nodes) (l .stack) (c .depth) (l .places) (m .stack) (m .places) n h (row .node) (entry .proved .tree)
       → Ends (Shown b (withStack l stack′)) (push (b .room) m h left entry) answer
   unfolding push pick
-  push-ends k h row {left} entry {stack′} {answer} pushes below there four means mark = tried (atMost (b .room .stack) k) refl
+  push-ends k h n row {left} entry {stack′} {answer} pushes below there there-too four means mark records = tried (atMost (b .room .stack) k) refl
     where
       tried : (t : Bool) → atMost (b .room .stack) k ≡ t → Ends (Shown b (withStack l stack′)) (push (b .room) m h left entry) answer
       tried true e =
@@ -56,15 +61,28 @@ module _ {b : Bench} {l : Lent} {c : Counts} {m : Memory} (s : Shown b l c m) wh
       tried false e =
           rw (pushes .answers, pushes .holds, e)
           (ends-skip StackFull (ap (atMost (b .room .stack)) (down-length there) ∙ e)
-          (goes (shown-pushed s k h row entry below (atMost-false _ _ e) there four means mark)))
+          (goes (shown-pushed s k h n row entry below (atMost-false _ _ e) there there-too four means mark records)))
+
+  -- nothing is recorded: this word has a derivation already, or is that of a hypothesis
+  pub records-none : (h word : ℕ) (tree : Rattle.book.specs.Book.Tree)
+      → ((d : Derivations (b .file) (l .tree) (c .nodes) (l .stack) (c .depth) (l .places) (m .stack) (m .places)) → Denotes (b .file) (d .kept) word tree)
+      → Records (b .file) (l .tree) (c .nodes) (l .stack) (c .depth) (l .places) (m .stack) (m .places) (c .nodes) h word tree
+  records-none h word tree denotes =
+      record {
+        few = omega arith;
+        sooner = λ enough. enough;
+        holds = λ enough d. record { now = d .kept; within = λ from t i. i; recorded = d .recorded; denotes = denotes d };
+      }
 
   -- one more place, or 46
   pub place-ends : (row : Row) (step : Prepared) {places′ : List ℕ} {answer : Outcome} → AddsPlace (l .places) c (b .room .places) row places′ answer
       → (c .places < b .room .places
       → PlaceShown (database (b .file)) (b .asked) (m .variables) (l .pool) (c .used) (withRow row (c .places) (l .places)) (c .places) step)
+      → (c .places < b .room .places → (d : Derivations (b .file) (l .tree) (c .nodes) (l .stack) (c .depth) (l .places) (m .stack) (m .places))
+      → NodePlaced (b .file) (d .kept) (withRow row (c .places) (l .places)) (c .places) step)
       → Ends (Shown b (withPlacesTable l places′)) (addPlace (b .room) m step) answer
   unfolding addPlace pick
-  place-ends row step {places′} {answer} adds shows = tried (atMost (b .room .places) (c .places)) refl
+  place-ends row step {places′} {answer} adds shows node-shows = tried (atMost (b .room .places) (c .places)) refl
     where
       tried : (t : Bool) → atMost (b .room .places) (c .places) ≡ t → Ends (Shown b (withPlacesTable l places′)) (addPlace (b .room) m step) answer
       tried true e =
@@ -72,4 +90,4 @@ module _ {b : Bench} {l : Lent} {c : Counts} {m : Memory} (s : Shown b l c m) wh
       tried false e =
           rw (adds .answers, adds .holds, e)
           (ends-skip PlacesFull (ap (atMost (b .room .places)) (sym (s .placed)) ∙ e)
-          (goes (shown-placed s row step (atMost-false _ _ e) (shows (atMost-false _ _ e)))))
+          (goes (shown-placed s row step (atMost-false _ _ e) (shows (atMost-false _ _ e)) (node-shows (atMost-false _ _ e)))))

@@ -10,6 +10,9 @@ use Rattle.frames.specs.Database.{Database, database}
 use Rattle.machine.specs.Memory.{Prepared, Entry, Memory}
 use Rattle.machine.specs.Prepare.{spend}
 use Rattle.machine.specs.Run.{firstVariables}
+use Rattle.book.specs.Book.{Tree}
+use Rattle.tree.specs.Recorded.{Applications, Within, SameUpTo, Denotes, Recorded}
+use Rattle.tree.proofs.Recording.{denotes-more, recorded-kept}
 use Rattle.packed.specs.Pool.{range}
 use Rattle.packed.proofs.Written.{range-front}
 use Rattle.packed.proofs.Numbering.{numbers-grown}
@@ -17,7 +20,7 @@ use Rattle.variables.specs.Numbering.{Numbered}
 use Rattle.memory.specs.declared.table.Row.{Row}
 use Rattle.memory.specs.declared.Counts.{Counts}
 use Rattle.memory.specs.Table.{withRow}
-use Rattle.memory.specs.Shown.{Bench, Lent, Down, bottom, over, Along, ends, next, Means, markOf, EntryShown, PlaceShown, recalled, applied, Shown, withPool, withStack, withPlacesTable, withUsed, withDepth, withPlaces, pushed, placed}
+use Rattle.memory.specs.Shown.{Bench, Lent, Down, bottom, over, Along, ends, next, Means, markOf, EntryShown, PlaceShown, recalled, applied, NodeShown, NodePlaced, Derivations, Holding, Records, Shown, withPool, withStack, withPlacesTable, withUsed, withDepth, withPlaces, withNodes, withTree, pushed, placed}
 use Rattle.memory.proofs.Tables.{with-row-length, row-new, row-kept}
 
 -- a range of the used part is the same in two pools whose used parts are the same
@@ -82,6 +85,11 @@ module _ {db : Database} {vs pool : List ℕ} {used : ℕ} {row : Row} {e : Expr
         numbers = numbers-grown ws (m .known) (m .numbers);
       }
 
+-- a place's derivation, when more is recorded
+node-more : {f : List ℕ} {kept kept′ : Applications} {places : List ℕ} {k : ℕ} {x : Prepared} → Within kept kept′ → NodePlaced f kept places k x → NodePlaced f kept′ places k x
+node-more within (recalled r at denotes) = recalled r at (denotes-more within denotes)
+node-more within applied = applied
+
 module _ {b : Bench} {l : Lent} {c : Counts} {m : Memory} (s : Shown b l c m) where
   -- more of the pool is used, and more variables are numbered
   module _ (ws numbers′ pool′ : List ℕ) (count′ used′ : ℕ) (numbered : Numbered numbers′ count′ (m .variables ++ ws)) (few : count′ ≤ 256)
@@ -120,14 +128,20 @@ module _ {b : Bench} {l : Lent} {c : Counts} {m : Memory} (s : Shown b l c m) wh
           locals = s .locals;
           locals-few = s .locals-few;
           locals-sized = s .locals-sized;
+          tree-limit = s .tree-limit;
+          nodes-few = s .nodes-few;
+          derivations = s .derivations;
         }
 
-  -- a row over the first k entries
-  pub shown-pushed : (k h : ℕ) (row : Row) {left : List Entry} (entry : Entry) → k ≤ c .depth → k < b .room .stack
-      → Down (EntryShown (database (b .file)) (m .variables) (l .pool) (c .used) (b .text) (l .stack)) k left → length (row .vars .words) ≡ 4
+  -- a row over the first k entries, with n tree entries used
+  pub shown-pushed : (k h n : ℕ) (row : Row) {left : List Entry} (entry : Entry) → k ≤ c .depth → k < b .room .stack
+      → Down (EntryShown (database (b .file)) (m .variables) (l .pool) (c .used) (b .text) (l .stack)) k left
+      → ((kept : Applications) → Down (NodeShown (b .file) kept (l .stack)) (c .depth) (m .stack) → Down (NodeShown (b .file) kept (l .stack)) k left)
+      → length (row .vars .words) ≡ 4
       → Means (database (b .file)) (m .variables) (l .pool) (c .used) row (entry .proved .expression) → markOf (b .text) (row .tag) (row .end) ≡ entry .mark
-      → Shown b (withStack l (withRow row k (l .stack))) (withDepth c (k + 1)) (pushed m h left entry)
-  shown-pushed k h row entry below room left four means mark =
+      → Records (b .file) (l .tree) (c .nodes) (l .stack) (c .depth) (l .places) (m .stack) (m .places) n h (row .node) (entry .proved .tree)
+      → Shown b (withStack l (withRow row k (l .stack))) (withDepth (withNodes c n) (k + 1)) (pushed m h left entry)
+  shown-pushed k h n row {left = es} entry below room left left-too four means mark records =
       let z = s .stack-sized in
       let y = s .stack-limit in
       let fits : 10 * k + 10 ≤ length (l .stack) = omega arith in
@@ -154,13 +168,31 @@ module _ {b : Bench} {l : Lent} {c : Counts} {m : Memory} (s : Shown b l c m) wh
         locals = s .locals;
         locals-few = s .locals-few;
         locals-sized = s .locals-sized;
+        tree-limit = s .tree-limit;
+        nodes-few = let f = records .few in let g = s .nodes-few in omega arith;
+        derivations = λ enough. held fits (s .derivations (records .sooner enough)) (records .holds enough (s .derivations (records .sooner enough)));
       }
+    where
+      held : 10 * k + 10 ≤ length (l .stack) → (d : Derivations (b .file) (l .tree) (c .nodes) (l .stack) (c .depth) (l .places) (m .stack) (m .places))
+          → Holding (b .file) (l .tree) n (d .kept) (row .node) (entry .proved .tree)
+          → Derivations (b .file) (l .tree) n (withRow row k (l .stack)) (k + 1) (l .places) (entry ∷ es) (m .places)
+      held fits d g =
+          record {
+            kept = g .now;
+            recorded = g .recorded;
+            on-stack =
+                over refl (record { row = row; at = row-new row k (l .stack) fits four; denotes = g .denotes })
+                (down-map (λ j e i p. record { row = p .row; at = row-kept row k (l .stack) fits j i (p .at); denotes = denotes-more (g .within) (p .denotes) }) (left-too (d .kept) (d .on-stack)));
+            in-places = along-map (length (m .places)) (omega arith) (λ j x i p. node-more (g .within) p) (d .in-places);
+          }
 
   -- a row more among the places
   pub shown-placed : (row : Row) (step : Prepared) → c .places < b .room .places
       → PlaceShown (database (b .file)) (b .asked) (m .variables) (l .pool) (c .used) (withRow row (c .places) (l .places)) (c .places) step
+      → ((d : Derivations (b .file) (l .tree) (c .nodes) (l .stack) (c .depth) (l .places) (m .stack) (m .places))
+      → NodePlaced (b .file) (d .kept) (withRow row (c .places) (l .places)) (c .places) step)
       → Shown b (withPlacesTable l (withRow row (c .places) (l .places))) (withPlaces c (c .places + 1)) (placed m step)
-  shown-placed row step room shows =
+  shown-placed row step room shows node-shows =
       let z = s .places-sized in
       let y = s .places-limit in
       let n = s .placed in
@@ -187,10 +219,63 @@ module _ {b : Bench} {l : Lent} {c : Counts} {m : Memory} (s : Shown b l c m) wh
         locals = s .locals;
         locals-few = let f = s .locals-few in omega arith;
         locals-sized = s .locals-sized;
+        tree-limit = s .tree-limit;
+        nodes-few = s .nodes-few;
+        derivations = λ enough. held fits (s .derivations enough);
       }
     where
+      node-kept : 10 * c .places + 10 ≤ length (l .places) → (kept : Applications) (k : ℕ) (x : Prepared) → k < c .places → NodePlaced (b .file) kept (l .places) k x
+          → NodePlaced (b .file) kept (withRow row (c .places) (l .places)) k x
+      node-kept fits kept k x i (recalled r at denotes) = recalled r (row-kept row (c .places) (l .places) fits k i at) denotes
+      node-kept fits kept k x i applied = applied
+
+      held : 10 * c .places + 10 ≤ length (l .places) → Derivations (b .file) (l .tree) (c .nodes) (l .stack) (c .depth) (l .places) (m .stack) (m .places)
+          → Derivations (b .file) (l .tree) (c .nodes) (l .stack) (c .depth) (withRow row (c .places) (l .places)) (m .stack) (m .places ++ (step ∷ []))
+      held fits d =
+          let n = s .placed in
+          record {
+            kept = d .kept;
+            recorded = d .recorded;
+            on-stack = d .on-stack;
+            in-places =
+                along-more (c .places) (omega arith) (along-map (c .places) (omega arith) (λ k x i p. node-kept fits (d .kept) k x i p) (d .in-places)) (node-shows d);
+          }
+
       kept : 10 * c .places + 10 ≤ length (l .places) → (k : ℕ) (x : Prepared) → k < c .places
           → PlaceShown (database (b .file)) (b .asked) (m .variables) (l .pool) (c .used) (l .places) k x
           → PlaceShown (database (b .file)) (b .asked) (m .variables) (l .pool) (c .used) (withRow row (c .places) (l .places)) k x
       kept fits k x i (recalled r at tag means) = recalled r (row-kept row (c .places) (l .places) fits k i at) tag means
       kept fits k x i (applied r at tag is before kind) = applied r (row-kept row (c .places) (l .places) fits k i at) tag is before kind
+
+  -- entries behind those that are used are written
+  pub shown-noted : (tree′ : List ℕ) → length tree′ ≡ length (l .tree) → SameUpTo (l .tree) tree′ (c .nodes) → Shown b (withTree l tree′) c m
+  shown-noted tree′ sized same =
+      record {
+        numbered = s .numbered;
+        variables-few = s .variables-few;
+        begun = s .begun;
+        mandatory-known = s .mandatory-known;
+        numbers-sized = s .numbers-sized;
+        pool = s .pool;
+        pool-few = s .pool-few;
+        pool-sized = s .pool-sized;
+        stack = s .stack;
+        stack-few = s .stack-few;
+        stack-limit = s .stack-limit;
+        stack-sized = s .stack-sized;
+        places = s .places;
+        placed = s .placed;
+        places-few = s .places-few;
+        places-limit = s .places-limit;
+        places-sized = s .places-sized;
+        locals = s .locals;
+        locals-few = s .locals-few;
+        locals-sized = s .locals-sized;
+        tree-limit = rw sized (s .tree-limit);
+        nodes-few = s .nodes-few;
+        derivations = λ enough. held (s .derivations (rw (sym sized) enough));
+      }
+    where
+      held : Derivations (b .file) (l .tree) (c .nodes) (l .stack) (c .depth) (l .places) (m .stack) (m .places)
+          → Derivations (b .file) tree′ (c .nodes) (l .stack) (c .depth) (l .places) (m .stack) (m .places)
+      held d = record { kept = d .kept; recorded = recorded-kept same (d .recorded); on-stack = d .on-stack; in-places = d .in-places }

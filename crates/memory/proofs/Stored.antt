@@ -20,7 +20,7 @@ module _ (stack : List ℕ) (c : Counts) (limit left : ℕ) (row : Row) where
       record { answers = pick-first _ (atMost-yes full) refl; holds = pick-first _ (atMost-yes full) refl }
 
   pub push-fits : {stack′ : List ℕ} → left < limit → stack′ ≡ withRow row left stack
-      → Pushes stack c limit left row stack′ (Go (record { used = c .used; count = c .count; places = c .places; locals = c .locals; depth = left + 1 }))
+      → Pushes stack c limit left row stack′ (Go (record { used = c .used; count = c .count; places = c .places; locals = c .locals; depth = left + 1; nodes = c .nodes }))
   push-fits fits is =
       record { answers = pick-second _ (atMost-no fits) refl; holds = pick-second _ (atMost-no fits) is }
 
@@ -30,7 +30,7 @@ module _ (places : List ℕ) (c : Counts) (limit : ℕ) (row : Row) where
       record { answers = pick-first _ (atMost-yes full) refl; holds = pick-first _ (atMost-yes full) refl }
 
   pub place-fits : {places′ : List ℕ} → c .places < limit → places′ ≡ withRow row (c .places) places
-      → AddsPlace places c limit row places′ (Go (record { used = c .used; count = c .count; places = c .places + 1; locals = c .locals; depth = c .depth }))
+      → AddsPlace places c limit row places′ (Go (record { used = c .used; count = c .count; places = c .places + 1; locals = c .locals; depth = c .depth; nodes = c .nodes }))
   place-fits fits is =
       record { answers = pick-second _ (atMost-no fits) refl; holds = pick-second _ (atMost-no fits) is }
 

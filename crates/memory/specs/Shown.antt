@@ -21,6 +21,8 @@ use Rattle.packed.specs.Images.{Numbers}
 use Rattle.packed.specs.Lists.{Defined}
 use Rattle.variables.specs.Numbering.{Numbered}
 use Rattle.resolve.specs.Locals.{localsOf}
+use Rattle.book.specs.Book.{Tree}
+use Rattle.tree.specs.Recorded.{Applications, Within, Denotes, Recorded}
 use Rattle.memory.specs.Table.{RowAt, withRow}
 use Rattle.memory.specs.declared.table.Row.{Row}
 use Rattle.memory.specs.declared.Counts.{Counts}
@@ -37,13 +39,14 @@ pub record Bench : Type 0 where
   pub room : Room
   pub text : List ℕ
 
--- the tables: variable numbers, pool, stack, places, local labels
+-- the tables: variable numbers, pool, stack, places, local labels, tree entries
 pub record Lent : Type 0 where
   pub numbers : List ℕ
   pub pool : List ℕ
   pub stack : List ℕ
   pub places : List ℕ
   pub locals : List ℕ
+  pub tree : List ℕ
 
 -- the room of the limits
 abbrev pub roomOf : Limits → Room
@@ -53,9 +56,9 @@ abbrev pub bench : List ℕ → List ℕ → List ℕ → ℕ → Limits → Lis
 bench f syms stmts p limits text =
     record { file = f; symbols = syms; statements = stmts; asked = p; room = roomOf limits; text = text }
 
-abbrev pub lent : List ℕ → List ℕ → List ℕ → List ℕ → List ℕ → Lent
-lent numbers pool stack places locals =
-    record { numbers = numbers; pool = pool; stack = stack; places = places; locals = locals }
+abbrev pub lent : List ℕ → List ℕ → List ℕ → List ℕ → List ℕ → List ℕ → Lent
+lent numbers pool stack places locals tree =
+    record { numbers = numbers; pool = pool; stack = stack; places = places; locals = locals; tree = tree }
 
 -- each member of a list, the last one at 0 and the first at the top
 pub data Down {A : Type 0} (P : ℕ → A → Type 0) : ℕ → List A → Type 0 where
@@ -101,13 +104,46 @@ pub record Extends (xs ys : List ℕ) : Type 0 where
   pub more : List ℕ
   pub is : ys ≡ xs ++ more
 
+-- row k of the stack has the word of this entry's derivation
+pub record NodeShown (f : List ℕ) (kept : Applications) (stack : List ℕ) (k : ℕ) (e : Entry) : Type 0 where
+  pub row : Row
+  pub at : RowAt stack k row
+  pub denotes : Denotes f kept (row .node) (e .proved .tree)
+
+-- row k of the places has the word of the derivation that a step recalls; an assertion has none
+pub data NodePlaced (f : List ℕ) (kept : Applications) (places : List ℕ) (k : ℕ) : Prepared → Type 0 where
+  recalled : {x : Proved} (row : Row) → RowAt places k row → Denotes f kept (row .node) (x .tree) → NodePlaced f kept places k (recalls x)
+  applied : {a : ℕ} → NodePlaced f kept places k (applies a)
+
+-- the first n tree entries hold the derivations of all that is on the stack and in the places
+pub record Derivations (f entries : List ℕ) (n : ℕ) (stack : List ℕ) (depth : ℕ) (places : List ℕ) (es : List Entry) (prepared : List Prepared) : Type 0 where
+  pub kept : Applications
+  pub recorded : Recorded f entries kept n
+  pub on-stack : Down (NodeShown f kept stack) depth es
+  pub in-places : Along (NodePlaced f kept places) 0 prepared
+
+-- the first n entries hold what was kept, and the derivation of this word
+pub record Holding (f entries : List ℕ) (n : ℕ) (kept : Applications) (word : ℕ) (tree : Tree) : Type 0 where
+  pub now : Applications
+  pub within : Within kept now
+  pub recorded : Recorded f entries now n
+  pub denotes : Denotes f now word tree
+
+-- a step that consumes h hypotheses has n tree entries used, of `used` before it; where they suffice, and held the derivations before it, they hold them still and
+-- the derivation of this word too
+pub record Records (f entries : List ℕ) (used : ℕ) (stack : List ℕ) (depth : ℕ) (places : List ℕ) (es : List Entry) (prepared : List Prepared) (n h word : ℕ)
+    (tree : Tree) : Type 0 where
+  pub few : n ≤ used + 1 + h
+  pub sooner : n ≤ length entries → used ≤ length entries
+  pub holds : n ≤ length entries → (d : Derivations f entries used stack depth places es prepared) → Holding f entries n (d .kept) word tree
+
 -- the tables and the counts stand for this memory
 pub record Shown (b : Bench) (l : Lent) (c : Counts) (m : Memory) : Type 0 where
   pub numbered : Numbered (l .numbers) (c .count) (m .variables)
   pub variables-few : c .count ≤ 256
   pub begun : Extends (firstVariables (database (b .file)) (b .asked)) (m .variables)
   pub mandatory-known : (v : ℕ) → v ∈ mandatory (database (b .file)) (statementOf (database (b .file)) (b .asked) .hyps) → v ∈ m .variables
-  pub numbers-sized : 4096 ≤ length (l .numbers)
+  pub numbers-sized : length (database (b .file) .symbols) ≤ length (l .numbers)
   pub pool : m .pool ≡ c .used
   pub pool-few : c .used ≤ b .room .pool
   pub pool-sized : b .room .pool ≤ length (l .pool)
@@ -123,6 +159,10 @@ pub record Shown (b : Bench) (l : Lent) (c : Counts) (m : Memory) : Type 0 where
   pub locals : m .locals ≡ localsOf (b .text) (l .locals) (c .locals)
   pub locals-few : c .locals ≤ c .places
   pub locals-sized : 12288 ≤ length (l .locals)
+  pub tree-limit : length (l .tree) ≤ 131072
+  pub nodes-few : c .nodes ≤ m .steps + m .consumed
+  pub derivations : c .nodes ≤ length (l .tree)
+      → Derivations (b .file) (l .tree) (c .nodes) (l .stack) (c .depth) (l .places) (m .stack) (m .places)
 
 -- the outcome is the definition's: it goes on with what has the property, or refuses alike
 pub data Ends (P : Counts → Memory → Type 0) : Result Memory → Outcome → Type 0 where
@@ -131,17 +171,17 @@ pub data Ends (P : Counts → Memory → Type 0) : Result Memory → Outcome →
 
 -- the tables with these numbers and this pool; with this stack; with these places
 abbrev pub withPool : Lent → List ℕ → List ℕ → Lent
-withPool l numbers pool = record { numbers = numbers; pool = pool; stack = l .stack; places = l .places; locals = l .locals }
+withPool l numbers pool = record { numbers = numbers; pool = pool; stack = l .stack; places = l .places; locals = l .locals; tree = l .tree }
 
 abbrev pub withStack : Lent → List ℕ → Lent
-withStack l stack = record { numbers = l .numbers; pool = l .pool; stack = stack; places = l .places; locals = l .locals }
+withStack l stack = record { numbers = l .numbers; pool = l .pool; stack = stack; places = l .places; locals = l .locals; tree = l .tree }
 
 abbrev pub withPlacesTable : Lent → List ℕ → Lent
-withPlacesTable l places = record { numbers = l .numbers; pool = l .pool; stack = l .stack; places = places; locals = l .locals }
+withPlacesTable l places = record { numbers = l .numbers; pool = l .pool; stack = l .stack; places = places; locals = l .locals; tree = l .tree }
 
 -- the counts with so many variables and pool bytes
 abbrev pub withUsed : Counts → ℕ → ℕ → Counts
-withUsed c count used = record { used = used; count = count; places = c .places; locals = c .locals; depth = c .depth }
+withUsed c count used = record { used = used; count = count; places = c .places; locals = c .locals; depth = c .depth; nodes = c .nodes }
 
 -- the memory with an entry over those left, after a step that consumed h hypotheses; and with one more place
 abbrev pub pushed : Memory → ℕ → List Entry → Entry → Memory
@@ -170,11 +210,19 @@ placed m step =
 
 -- the counts with so many entries on the stack
 abbrev pub withDepth : Counts → ℕ → Counts
-withDepth c n = record { used = c .used; count = c .count; places = c .places; locals = c .locals; depth = n }
+withDepth c n = record { used = c .used; count = c .count; places = c .places; locals = c .locals; depth = n; nodes = c .nodes }
 
 -- with so many places
 abbrev pub withPlaces : Counts → ℕ → Counts
-withPlaces c n = record { used = c .used; count = c .count; places = n; locals = c .locals; depth = c .depth }
+withPlaces c n = record { used = c .used; count = c .count; places = n; locals = c .locals; depth = c .depth; nodes = c .nodes }
+
+-- with so many tree entries used
+abbrev pub withNodes : Counts → ℕ → Counts
+withNodes c n = record { used = c .used; count = c .count; places = c .places; locals = c .locals; depth = c .depth; nodes = n }
+
+-- with these tree entries
+abbrev pub withTree : Lent → List ℕ → Lent
+withTree l tree = record { numbers = l .numbers; pool = l .pool; stack = l .stack; places = l .places; locals = l .locals; tree = tree }
 
 -- a row is put over the `left` entries that stay, or there is no room
 pub record Pushes (stack : List ℕ) (c : Counts) (limit left : ℕ) (row : Row) (stack′ : List ℕ) (answer : Outcome) : Type 0 where

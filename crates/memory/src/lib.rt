@@ -5,13 +5,15 @@ pub mod table;
 
 use machine::Refusal;
 
-// How much of the memory is used: pool bytes, variables, places, local labels, stack entries.
+// How much of the memory is used: pool bytes, variables, places, local labels, stack entries, tree entries (more than are lent where the derivation did not
+// fit).
 pub struct Counts {
     pub used: usize,
     pub count: u32,
     pub places: usize,
     pub locals: usize,
     pub depth: usize,
+    pub nodes: usize,
 }
 
 // How much of it may be used.

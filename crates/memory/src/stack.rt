@@ -26,6 +26,7 @@ pub fn push(stack: &mut [u64], c: Counts, limit: usize, left: usize, row: Row) -
         places: c.places,
         locals: c.locals,
         depth: left + 1,
+        nodes: c.nodes,
     })
 }
 
@@ -45,6 +46,7 @@ pub fn add_place(places: &mut [u64], c: Counts, limit: usize, row: Row) -> Outco
         places: next + 1,
         locals: c.locals,
         depth: c.depth,
+        nodes: c.nodes,
     })
 }
 

@@ -5,7 +5,7 @@ use mathlib.Core.Bool.{Bool, true, false}
 use mathlib.Core.List.{List, [], _∷_, _++_}
 use native.Mathlib.Omega.{arith}
 use lib.ListN.{length, getD, take, drop, length-take, drop-of-length-le}
-use lib.Seq.{take-take, take-add, take-append-seam, drop-drop}
+use lib.Seq.{take-take, take-add, take-append-seam, drop-drop, drop-cons}
 use Rattle.frames.specs.Logic.{equal, both, pick, same}
 use Rattle.frames.specs.Layout.{restAt}
 use Rattle.frames.specs.Database.{symbolAt}
@@ -29,6 +29,21 @@ ended-end (b ∷ []) zero h k = refl
 ended-end (b ∷ []) (suc i) h k = absurd (omega arith)
 ended-end (b ∷ c ∷ cs) zero h k = absurd (omega arith)
 ended-end (b ∷ c ∷ cs) (suc i) h k = ended-end (c ∷ cs) i (omega arith) (omega arith)
+
+both-end : (t : Bool) → t ≡ both t true
+unfolding both
+both-end true = refl
+both-end false = refl
+
+-- a name of one byte stands where that byte, marked, does
+pub same-byte : (name : List ℕ) (at : ℕ) (pool : List ℕ) → length name ≡ 1 → at < length pool
+    → equal (128 + getD name 0 0 % 128) (getD pool at 0) ≡ same (ended name) (range at (at + length name) pool)
+unfolding ended range same
+same-byte [] at pool e h = absurd (omega arith)
+same-byte (b ∷ []) at pool e h =
+    let n : at + length (b ∷ []) - at ≡ 1 = omega arith in
+    rw (n, drop-cons pool at 0) (both-end (equal (128 + b % 128) (getD pool at 0)))
+same-byte (b ∷ c ∷ cs) at pool e h = absurd (omega arith)
 
 -- a common front decides nothing
 same-front : (t x y : List ℕ) → same (t ++ x) (t ++ y) ≡ same x y

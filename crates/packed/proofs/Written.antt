@@ -134,3 +134,13 @@ pub written-last : (name : List ℕ) (at : ℕ) (pool : List ℕ) → 1 ≤ leng
 written-last name at pool h k =
     let e : at + length name - 1 ≡ at + (length name - 1) = omega arith in
     rw (e, written-set name at pool (length name - 1) _ (omega arith) (omega arith), set-ended)
+
+-- a name of one byte, marked
+pub written-byte : (name : List ℕ) (at : ℕ) (pool : List ℕ) → length name ≡ 1 → at < length pool
+    → set pool at (128 + getD name 0 0 % 128) ≡ written (ended name) at pool
+unfolding ended
+written-byte [] at pool e h = absurd (omega arith)
+written-byte (b ∷ []) at pool e h =
+    let more = written-more [] at pool (128 + b % 128) (omega arith) in
+    rw (written-none at pool, add-zero) at more
+written-byte (b ∷ c ∷ cs) at pool e h = absurd (omega arith)

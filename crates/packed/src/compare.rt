@@ -35,11 +35,23 @@ fn ended_byte(name: &[u8], i: usize) -> u8
     128 + b % 128
 }
 
+// Whether the packed name of one byte stands at `at`. Most names are of one byte.
+fn matches_byte(pool: &[u8], at: usize, name: &[u8]) -> bool
+    requires { ⌜ (length (now name) ≡ 1) × (at < length (now pool)) ⌝ }
+    ensures { λ r. ⌜ r ≡ same (ended (now (name .entry))) (range at (at + length (now (name .entry))) (now (pool .entry))) ⌝ }
+{
+    let byte = name[0];
+    128 + byte % 128 == pool[at]
+}
+
 // Whether the packed name stands at `at`.
 fn matches_name(pool: &[u8], at: usize, name: &[u8]) -> bool
     requires { ⌜ at + length (now name) ≤ length (now pool) ⌝ }
     ensures { λ r. ⌜ r ≡ same (ended (now (name .entry))) (range at (at + length (now (name .entry))) (now (pool .entry))) ⌝ }
 {
+    if name.len() == 1 {
+        return matches_byte(pool, at, name);
+    }
     let mut i = 0;
     while i < name.len() {
         if ended_byte(name, i) != pool[at + i] {

@@ -1,7 +1,7 @@
 // A port of parts of src/verify.rs of metamath-rs 0.3.9 (writing into the buffer), changed (see NOTICE).
 // Writing into the pool: a text, a name with its last byte marked, a copy within the pool.
 ghost use mathlib.Core.Path.{_≡_};
-ghost use Prim.Native.Nat.{_+_, _-_, _≤_};
+ghost use Prim.Native.Nat.{_+_, _-_, _≤_, _<_};
 ghost use lib.ListN.{length};
 ghost use Rattle.packed.specs.Packing.{ended};
 ghost use Rattle.packed.specs.Pool.{written, range, Adds, Untouched};
@@ -24,13 +24,26 @@ fn put_text(pool: &mut [u8], at: usize, text: &[u8])
     }
 }
 
+// Puts a name of one byte into the pool at `at`, its high bit set. Most names are of one byte.
+fn put_byte(pool: &mut [u8], at: usize, name: &[u8])
+    requires { ⌜ (length (now name) ≡ 1) × (at < length (now pool)) ⌝ }
+    ensures { λ _. ⌜ now (pool .exit) ≡ written (ended (now (name .entry))) at (now (pool .entry)) ⌝ }
+{
+    let byte = name[0];
+    pool[at] = 128 + byte % 128;
+}
+
 // Puts a name into the pool at `at`, the high bit set on its last byte.
 fn put_name(pool: &mut [u8], at: usize, name: &[u8])
     requires { ⌜ at + length (now name) ≤ length (now pool) ⌝ }
     ensures { λ _. ⌜ now (pool .exit) ≡ written (ended (now (name .entry))) at (now (pool .entry)) ⌝ }
 {
-    put_text(pool, at, name);
     let n = name.len();
+    if n == 1 {
+        put_byte(pool, at, name);
+        return;
+    }
+    put_text(pool, at, name);
     if 0 < n {
         let last = name[n - 1];
         pool[at + n - 1] = 128 + last % 128;

@@ -58,7 +58,7 @@ there {p = p} filed asked at-is = rw at-is (filed-located filed p asked)
 module _ {e : Env} {t : Tables} {s : State} (r : Running e t (s .counts)) {at : ℕ} (at-is : at ≡ getD (e .statements) (e .asked) 0) where
   -- no token is open
   pub ends-none : {answer : Answer} → s .token ≡ length (e .text)
-      → Closes (e .file) (e .symbols) at (t .stack) (t .pool) (s .counts) (s .mode) (length (e .text)) (s .steps) answer → EndsText e t s answer
+      → Closes (e .file) (e .symbols) at (t .stack) (t .pool) (s .counts) (s .mode) (length (e .text)) (s .steps) answer → EndsText e t (t .tree) s answer
   ends-none none closes =
       record {
         tells = λ d st.
@@ -90,7 +90,7 @@ module _ {e : Env} {t : Tables} {s : State} (r : Running e t (s .counts)) {at : 
 
     pub ends-go : {t′ : Tables} {mode : Mode} {c : Counts} {steps : ℕ} {answer : Answer}
         → ReadsToken e t t′ (s .counts) (s .mode) (s .token) (length (e .text)) (s .steps) (read.Go mode c steps)
-        → Closes (e .file) (e .symbols) at (t′ .stack) (t′ .pool) c mode (length (e .text)) steps answer → EndsText e t s answer
+        → Closes (e .file) (e .symbols) at (t′ .stack) (t′ .pool) c mode (length (e .text)) steps answer → EndsText e t (t′ .tree) s answer
     ends-go {t′} reads closes =
         record {
           tells = λ d st.
@@ -99,5 +99,5 @@ module _ {e : Env} {t : Tables} {s : State} (r : Running e t (s .counts)) {at : 
         }
 
     pub ends-stop : {t′ : Tables} {why : Refusal} {steps : ℕ} → ReadsToken e t t′ (s .counts) (s .mode) (s .token) (length (e .text)) (s .steps) (read.Stop why steps)
-        → EndsText e t s (Refused (record { why = why; place = s .token; steps = steps }))
+        → EndsText e t (t′ .tree) s (Refused (record { why = why; place = s .token; steps = steps }))
     ends-stop reads = record { tells = λ d st. tells-same (read-stop (judged reads d st)) refuses }

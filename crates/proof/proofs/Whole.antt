@@ -58,11 +58,11 @@ abbrev pub withTable : Env → List ℕ → Env
 withTable e table = env (e .file) (e .symbols) (e .statements) (e .asked) (e .text) table (e .limits)
 
 abbrev pub withNumbers : Tables → List ℕ → Tables
-withNumbers t numbers = tables (t .seats) (t .froms) (t .tos) (t .sets) numbers (t .pool) (t .stack) (t .places) (t .locals)
+withNumbers t numbers = tables (t .seats) (t .froms) (t .tos) (t .sets) numbers (t .pool) (t .stack) (t .places) (t .locals) (t .tree)
 
 module _ {e : Env} {t t′ : Tables} {c : Counts} where
   -- the run is over before the end
-  pub text-over : {x : Stopped} → ReadsText e t t′ (record { mode = Beginning; token = 0; steps = 0; counts = c }) (Over x) → RunsText e t c (Refused x)
+  pub text-over : {x : Stopped} → ReadsText e t t′ (record { mode = Beginning; token = 0; steps = 0; counts = c }) (Over x) → RunsText e t (t′ .tree) c (Refused x)
   text-over {x} reads =
       record {
         tells = λ m n s.
@@ -71,7 +71,7 @@ module _ {e : Env} {t t′ : Tables} {c : Counts} where
       }
 
   -- it comes to the end
-  pub text-going : {s : State} {r : answer.Answer} → ReadsText e t t′ (record { mode = Beginning; token = 0; steps = 0; counts = c }) (Going s) → EndsText e t′ s r → RunsText e t c r
+  pub text-going : {s : State} {tree : List ℕ} {r : answer.Answer} → ReadsText e t t′ (record { mode = Beginning; token = 0; steps = 0; counts = c }) (Going s) → EndsText e t′ tree s r → RunsText e t tree c r
   text-going reads ends =
       record {
         tells = λ m n s.
@@ -97,21 +97,20 @@ start-go db p room text m e = rw e refl
 
 module _ {e : Env} {t : Tables} (b : Blank e t) {at : ℕ} (at-is : at ≡ getD (e .statements) (e .asked) 0) where
   pub verify-refused : {numbers′ : List ℕ} {why : Refusal} → Begins (e .file) (e .statements) at (e .text) (t .numbers) numbers′ (outcome.Refused why)
-      → Tells (machine.run (database (e .file)) (e .asked) (roomOf (e .limits)) (e .text)) (Refused (record { why = why; place = 0; steps = 0 }))
+      → Tells (e .file) (t .tree) (machine.run (database (e .file)) (e .asked) (roomOf (e .limits)) (e .text)) (Refused (record { why = why; place = 0; steps = 0 }))
   verify-refused {numbers′} {why} begins =
-      let stopped = ends-refused (begins .follows (e .symbols) (e .asked) (e .limits) (t .pool) (t .stack) (t .places) (t .locals) (b .filed) (there (b .filed) (b .asked) at-is) (b .numbers) (b .roomy)) in
+      let stopped = ends-refused (begins .follows (e .symbols) (e .asked) (e .limits) (t .pool) (t .stack) (t .places) (t .locals) (t .tree) (b .filed) (there (b .filed) (b .asked) at-is) (b .numbers) (b .roomy)) in
       tells-same (start-stop (database (e .file)) (e .asked) (roomOf (e .limits)) (e .text) why stopped) refuses
 
   module _ {numbers′ : List ℕ} {c : Counts} (begins : Begins (e .file) (e .statements) at (e .text) (t .numbers) numbers′ (outcome.Go c)) where
     begun : (m : Memory) × (machine.admitted (database (e .file)) (e .asked) (e .text) ≡ fine m) × Shown (benchOf e) (lentOf (withNumbers t numbers′)) c m
-    begun = ends-go (begins .follows (e .symbols) (e .asked) (e .limits) (t .pool) (t .stack) (t .places) (t .locals) (b .filed) (there (b .filed) (b .asked) at-is) (b .numbers) (b .roomy))
+    begun = ends-go (begins .follows (e .symbols) (e .asked) (e .limits) (t .pool) (t .stack) (t .places) (t .locals) (t .tree) (b .filed) (there (b .filed) (b .asked) at-is) (b .numbers) (b .roomy))
 
     inside : (v : ℕ) → v ∈ machine.members (statementOf (database (e .file)) (e .asked) .pairs) → v < length numbers′
     inside v i =
         let facts = good-facts (e .file) (b .filed .good) in
         let st = facts .statement (e .asked) (b .asked) in
         let below = members-below (length (database (e .file) .symbols)) _ (λ q j. (st .pair-first q j .defined, st .pair-second q j .defined)) v i in
-        let few = facts .symbol-count in
         let large = b .numbers .sized in
         let same = begins .sized in
         omega arith
@@ -141,7 +140,7 @@ module _ {e : Env} {t : Tables} (b : Blank e t) {at : ℕ} (at-is : at ≡ getD 
           shown = w .2;
         }
 
-    pub verify-text : {table′ : List ℕ} {r : answer.Answer} → RunsText (withTable e table′) (withNumbers t numbers′) c r → Tells (machine.run (database (e .file)) (e .asked) (roomOf (e .limits)) (e .text)) r
+    pub verify-text : {table′ tree′ : List ℕ} {r : answer.Answer} → RunsText (withTable e table′) (withNumbers t numbers′) tree′ c r → Tells (e .file) tree′ (machine.run (database (e .file)) (e .asked) (roomOf (e .limits)) (e .text)) r
     verify-text runs =
         let w = begun in
         tells-same (start-go (database (e .file)) (e .asked) (roomOf (e .limits)) (e .text) (w .0) (w .1)) (runs .tells (w .0) (steps-out (admitted-steps _ _ _) (w .1)) (w .2))

@@ -45,13 +45,14 @@ fn end_text(
     stack: &mut [u64],
     places: &mut [u64],
     locals: &mut [u32],
+    tree: &mut [u64],
     limits: Limits,
     s: State,
 ) -> Answer
     requires { ⌜ Labelled (now file) (now statements) (now labels) ⌝ }
-    requires { ⌜ Running (env (now file) (now symbols) (now statements) (p .0) (now text) (now table) limits) (tables (now seats) (now froms) (now tos) (now sets) (now numbers) (now pool) (now stack) (now places) (now locals)) (s .counts) ⌝ }
+    requires { ⌜ Running (env (now file) (now symbols) (now statements) (p .0) (now text) (now table) limits) (tables (now seats) (now froms) (now tos) (now sets) (now numbers) (now pool) (now stack) (now places) (now locals) (now tree)) (s .counts) ⌝ }
     requires low { ⌜ (Low (s .mode) × (s .steps ≤ 65536)) × (s .token ≤ length (now text)) ⌝ }
-    ensures { λ r. ⌜ EndsText (env (now (file .entry)) (now (symbols .entry)) (now (statements .entry)) (p .0) (now (text .entry)) (now (table .entry)) limits) (tables (now (seats .entry)) (now (froms .entry)) (now (tos .entry)) (now (sets .entry)) (now (numbers .entry)) (now (pool .entry)) (now (stack .entry)) (now (places .entry)) (now (locals .entry))) s r ⌝ }
+    ensures { λ r. ⌜ EndsText (env (now (file .entry)) (now (symbols .entry)) (now (statements .entry)) (p .0) (now (text .entry)) (now (table .entry)) limits) (tables (now (seats .entry)) (now (froms .entry)) (now (tos .entry)) (now (sets .entry)) (now (numbers .entry)) (now (pool .entry)) (now (stack .entry)) (now (places .entry)) (now (locals .entry)) (now (tree .entry))) (now (tree .exit)) s r ⌝ }
 {
     let at = fields::statement_offset(statements, p);
     let c = s.counts;
@@ -76,6 +77,7 @@ fn end_text(
             stack,
             places,
             locals,
+            tree,
             from,
             text.len(),
             c,
@@ -129,12 +131,13 @@ fn run_text(
     stack: &mut [u64],
     places: &mut [u64],
     locals: &mut [u32],
+    tree: &mut [u64],
     limits: Limits,
     c: Counts,
 ) -> Answer
     requires { ⌜ Labelled (now file) (now statements) (now labels) ⌝ }
-    requires { ⌜ Running (env (now file) (now symbols) (now statements) (p .0) (now text) (now table) limits) (tables (now seats) (now froms) (now tos) (now sets) (now numbers) (now pool) (now stack) (now places) (now locals)) c ⌝ }
-    ensures { λ r. ⌜ RunsText (env (now (file .entry)) (now (symbols .entry)) (now (statements .entry)) (p .0) (now (text .entry)) (now (table .entry)) limits) (tables (now (seats .entry)) (now (froms .entry)) (now (tos .entry)) (now (sets .entry)) (now (numbers .entry)) (now (pool .entry)) (now (stack .entry)) (now (places .entry)) (now (locals .entry))) c r ⌝ }
+    requires { ⌜ Running (env (now file) (now symbols) (now statements) (p .0) (now text) (now table) limits) (tables (now seats) (now froms) (now tos) (now sets) (now numbers) (now pool) (now stack) (now places) (now locals) (now tree)) c ⌝ }
+    ensures { λ r. ⌜ RunsText (env (now (file .entry)) (now (symbols .entry)) (now (statements .entry)) (p .0) (now (text .entry)) (now (table .entry)) limits) (tables (now (seats .entry)) (now (froms .entry)) (now (tos .entry)) (now (sets .entry)) (now (numbers .entry)) (now (pool .entry)) (now (stack .entry)) (now (places .entry)) (now (locals .entry)) (now (tree .entry))) (now (tree .exit)) c r ⌝ }
 {
     let start = State {
         mode: Mode::Beginning,
@@ -159,6 +162,7 @@ fn run_text(
         stack,
         places,
         locals,
+        tree,
         limits,
         start,
     ) {
@@ -180,6 +184,7 @@ fn run_text(
             stack,
             places,
             locals,
+            tree,
             limits,
             s,
         ),
@@ -204,11 +209,12 @@ pub fn verify_proof(
     stack: &mut [u64],
     places: &mut [u64],
     locals: &mut [u32],
+    tree: &mut [u64],
     limits: Limits,
 ) -> Answer
     requires { ⌜ Labelled (now file) (now statements) (now labels) ⌝ }
-    requires { ⌜ Blank (env (now file) (now symbols) (now statements) (p .0) (now text) (now table) limits) (tables (now seats) (now froms) (now tos) (now sets) (now numbers) (now pool) (now stack) (now places) (now locals)) ⌝ }
-    ensures { λ r. ⌜ Tells (run (database (now (file .entry))) (p .0) (roomOf limits) (now (text .entry))) r ⌝ }
+    requires { ⌜ Blank (env (now file) (now symbols) (now statements) (p .0) (now text) (now table) limits) (tables (now seats) (now froms) (now tos) (now sets) (now numbers) (now pool) (now stack) (now places) (now locals) (now tree)) ⌝ }
+    ensures { λ r. ⌜ Tells (now (file .entry)) (now (tree .exit)) (run (database (now (file .entry))) (p .0) (roomOf limits) (now (text .entry))) r ⌝ }
 {
     let at = fields::statement_offset(statements, p);
     match begin(file, statements, at, text, numbers) {
@@ -236,6 +242,7 @@ pub fn verify_proof(
                 stack,
                 places,
                 locals,
+                tree,
                 limits,
                 c,
             )

@@ -34,6 +34,9 @@ module _ {e : Env} {t : Tables} {c : Counts} (r : Running e t c) where
       let y = z .tos in
       (((z .ranged, omega arith), (omega arith, (omega arith, z .seats))), omega arith)
 
+  pub tree-there : length (t .tree) ≤ 131072
+  tree-there = r .shown .tree-limit
+
   pub pool-there : (c .count < 1000) × ((c .used ≤ e .limits .pool) × (e .limits .pool ≤ length (t .pool)))
   pool-there = let s = r .shown in let f = s .variables-few in (omega arith, (s .pool-few, s .pool-sized))
 

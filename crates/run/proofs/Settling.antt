@@ -34,7 +34,7 @@ pub stopped : {e : Env} {t : Tables} {place n steps : ℕ} {why : Refusal} {r : 
 stopped next after n e = rw n (settled-stop next after e)
 
 -- an answer that stops keeps nothing
-pub keeps-stop : {t : Tables} {steps steps′ : ℕ} {why : Refusal} → Keeps t steps (Stop why steps′)
+pub keeps-stop : {n : ℕ} {t : Tables} {steps steps′ : ℕ} {why : Refusal} → Keeps n t steps (Stop why steps′)
 keeps-stop =
     record {
       sized = λ mode c s e. let z : _≡_ {A = ℕ} 0 1 = cc in absurd (omega arith);
@@ -43,8 +43,8 @@ keeps-stop =
     }
 
 -- one that goes on keeps the tables, a low k and the count of steps
-pub keeps-go : {t : Tables} {steps steps′ : ℕ} {mode : Mode} {c : Counts} → Sized t (c .used) → Low mode → steps′ ≤ steps + 1 → Keeps t steps (Go mode c steps′)
-keeps-go {t} {steps} {steps′} {mode} {c} s l f =
+pub keeps-go : {n : ℕ} {t : Tables} {steps steps′ : ℕ} {mode : Mode} {c : Counts} → Sized n t (c .used) → Low mode → steps′ ≤ steps + 1 → Keeps n t steps (Go mode c steps′)
+keeps-go {n} {t} {steps} {steps′} {mode} {c} s l f =
     record {
       sized = λ mode″ c″ s″ e. let same : c″ ≡ c = cc in rw same s;
       low = λ mode″ c″ s″ e. let same : mode″ ≡ mode = cc in rw same l;

@@ -34,8 +34,8 @@ pub data Reads (e : Env) (t : Tables) (place : ℕ) (next : machine.Mode → Mem
       → Reads e t place next (next (modeOf mode) m) (Go mode c steps)
   stops : {why : Refusal} {steps : ℕ} → Reads e t place next (machine.over (refused why place steps)) (Stop why steps)
 
--- what an answer keeps
-pub record Keeps (t : Tables) (steps : ℕ) (answer : Read) : Type 0 where
-  pub sized : (mode : Mode) (c : Counts) (steps′ : ℕ) → answer ≡ Go mode c steps′ → Sized t (c .used)
+-- what an answer keeps, where the file has n symbols
+pub record Keeps (n : ℕ) (t : Tables) (steps : ℕ) (answer : Read) : Type 0 where
+  pub sized : (mode : Mode) (c : Counts) (steps′ : ℕ) → answer ≡ Go mode c steps′ → Sized n t (c .used)
   pub low : (mode : Mode) (c : Counts) (steps′ : ℕ) → answer ≡ Go mode c steps′ → Low mode
   pub few : (mode : Mode) (c : Counts) (steps′ : ℕ) → answer ≡ Go mode c steps′ → steps′ ≤ steps + 1

@@ -1,5 +1,5 @@
 -- Where a run stands: what is under check, the tables, and that they show some memory of the definition; and what a part of a run does.
-use Prim.Native.Nat.{ℕ, _≤_, _<_}
+use Prim.Native.Nat.{ℕ, _*_, _≤_, _<_}
 use mathlib.Core.Path.{_≡_}
 use mathlib.Core.List.{List}
 use lib.ListN.{length}
@@ -32,7 +32,7 @@ env f syms stmts p text table limits =
 abbrev pub benchOf : Env → Bench
 benchOf e = bench (e .file) (e .symbols) (e .statements) (e .asked) (e .limits) (e .text)
 
--- the tables: seats, images (from, to, set), variable numbers, pool, stack, places, local labels
+-- the tables: seats, images (from, to, set), variable numbers, pool, stack, places, local labels, tree entries
 pub record Tables : Type 0 where
   pub seats : List ℕ
   pub froms : List ℕ
@@ -43,17 +43,18 @@ pub record Tables : Type 0 where
   pub stack : List ℕ
   pub places : List ℕ
   pub locals : List ℕ
+  pub tree : List ℕ
 
-abbrev pub tables : List ℕ → List ℕ → List ℕ → List ℕ → List ℕ → List ℕ → List ℕ → List ℕ → List ℕ → Tables
-tables seats froms tos sets numbers pool stack places locals =
-    record { seats = seats; froms = froms; tos = tos; sets = sets; numbers = numbers; pool = pool; stack = stack; places = places; locals = locals }
+abbrev pub tables : List ℕ → List ℕ → List ℕ → List ℕ → List ℕ → List ℕ → List ℕ → List ℕ → List ℕ → List ℕ → Tables
+tables seats froms tos sets numbers pool stack places locals tree =
+    record { seats = seats; froms = froms; tos = tos; sets = sets; numbers = numbers; pool = pool; stack = stack; places = places; locals = locals; tree = tree }
 
 abbrev pub lentOf : Tables → Lent
-lentOf t = lent (t .numbers) (t .pool) (t .stack) (t .places) (t .locals)
+lentOf t = lent (t .numbers) (t .pool) (t .stack) (t .places) (t .locals) (t .tree)
 
 -- the tables with these places
 abbrev pub withPlacesOf : Tables → List ℕ → Tables
-withPlacesOf t places = tables (t .seats) (t .froms) (t .tos) (t .sets) (t .numbers) (t .pool) (t .stack) places (t .locals)
+withPlacesOf t places = tables (t .seats) (t .froms) (t .tos) (t .sets) (t .numbers) (t .pool) (t .stack) places (t .locals) (t .tree)
 
 -- what does not change in a run
 pub record Checked (e : Env) : Type 0 where
@@ -63,22 +64,26 @@ pub record Checked (e : Env) : Type 0 where
   pub small : e .limits .pool ≤ 65536
   pub text-few : length (e .text) ≤ 65536
 
--- the tables of images are whole, and their ranges are within the used part of the pool
-pub record Sized (t : Tables) (used : ℕ) : Type 0 where
+-- how many symbols the file has
+abbrev pub widthOf : Env → ℕ
+widthOf e = length (database (e .file) .symbols)
+
+-- the tables of images have an entry for each of n symbols, and their ranges are within the used part of the pool
+pub record Sized (n : ℕ) (t : Tables) (used : ℕ) : Type 0 where
   pub seats : 64 ≤ length (t .seats)
-  pub froms : length (t .froms) ≡ 4096
-  pub tos : length (t .tos) ≡ 4096
-  pub sets : length (t .sets) ≡ 16384
+  pub froms : length (t .froms) ≡ n
+  pub tos : length (t .tos) ≡ n
+  pub sets : length (t .sets) ≡ 4 * n
   pub ranged : Ranged (t .froms) (t .tos) used
 
 -- the run may go on from here
 pub record Running (e : Env) (t : Tables) (c : Counts) : Type 0 where
   pub checked : Checked e
-  pub sized : Sized t (c .used)
+  pub sized : Sized (widthOf e) t (c .used)
   pub memory : Memory
   pub shown : Shown (benchOf e) (lentOf t) c memory
 
 -- a part of a run: for every memory that the tables show, the outcome is the definition's, and then the tables show what comes out
 pub record Proceeds (e : Env) (t t′ : Tables) (c : Counts) (op : Memory → Result Memory) (answer : Outcome) : Type 0 where
-  pub sized : (c′ : Counts) → answer ≡ Go c′ → Sized t′ (c′ .used)
+  pub sized : (c′ : Counts) → answer ≡ Go c′ → Sized (widthOf e) t′ (c′ .used)
   pub follows : (m : Memory) → Shown (benchOf e) (lentOf t) c m → Ends (Shown (benchOf e) (lentOf t′)) (op m) answer

@@ -23,7 +23,7 @@ use Rattle.run.specs.declared.Read.the-variants.{Go, Stop}
 use Rattle.run_bytes.specs.declared.State.{State}
 use Rattle.run_bytes.specs.declared.Next.{Next}
 use Rattle.run_bytes.specs.declared.Next.the-variants.{Going, Over}
-use Rattle.run.specs.Running.{Env, Tables, Sized, benchOf, lentOf}
+use Rattle.run.specs.Running.{Env, Tables, Sized, benchOf, lentOf, widthOf}
 use Rattle.run.specs.Reads as low-as
 use Rattle.run.specs.Reads.{modeOf, Low, Reads, goes, stops, Keeps}
 use Rattle.run_letters.specs.Letters.{ReadsLetter}
@@ -39,7 +39,7 @@ module _ {at place : ℕ} where
   unfolding machine.goOn
   after-go {mode} {c} {steps} =
       record {
-        keeps = λ t n k.
+        keeps = λ w t n k.
             record {
               sized = λ s e. let same : s ≡ record { mode = mode; token = at + 1; steps = steps; counts = c } = cc in rw same (k .sized mode c steps refl);
               low = λ s e. let same : s ≡ record { mode = mode; token = at + 1; steps = steps; counts = c } = cc in rw same (k .low mode c steps refl);
@@ -62,7 +62,7 @@ module _ {at place : ℕ} where
   pub after-stop : {why : Refusal} {steps : ℕ} → After (Stop why steps) at place (Over (record { why = why; place = place; steps = steps }))
   after-stop {why} {steps} =
       record {
-        keeps = λ t n k.
+        keeps = λ w t n k.
             record {
               sized = λ s e. let z : _≡_ {A = ℕ} 0 1 = cc in absurd (omega arith);
               low = λ s e. let z : _≡_ {A = ℕ} 0 1 = cc in absurd (omega arith);
@@ -100,7 +100,7 @@ pub letter-byte : {e : Env} {t t′ : Tables} {s : State} {k at b : ℕ} {saves 
 unfolding machine.onByte machine.byMode
 letter-byte {e} {t} {t′} {s} {k} {at} {b} {saves} mode reads next =
     record {
-      keeps = next .keeps t′ (s .steps) (reads .keeps);
+      keeps = next .keeps (widthOf e) t′ (s .steps) (reads .keeps);
       follows = λ d st.
           rw (st .mode ∙ (ap modeOf mode ∙ letters-mode), st .place) (next .alike e t′ _ (reads .follows (d .memory) at (st .steps) (st .shown)));
     }
@@ -116,7 +116,7 @@ by-plain db p room m token at b beginning = refl
 by-plain db p room m token at b normal = refl
 by-plain db p room m token at b roster = refl
 
-module _ {e : Env} {t : Tables} {s : State} {at b : ℕ} (plain : Plain (s .mode)) (low : Low (s .mode)) (z : Sized t (s .counts .used)) (before : s .token ≤ at) where
+module _ {e : Env} {t : Tables} {s : State} {at b : ℕ} (plain : Plain (s .mode)) (low : Low (s .mode)) (z : Sized (widthOf e) t (s .counts .used)) (before : s .token ≤ at) where
   -- one more of the token
   pub plain-more : divider b ≡ false → at < length (e .text) → b ≡ getD (e .text) at 0 → ReadsByte e t t s at b (Going s)
   unfolding machine.onByte machine.onPlain pick
@@ -171,11 +171,11 @@ end-token db p room m mode at (b ∷ bs) next some = refl
 pub plain-token : {e : Env} {t t′ : Tables} {s : State} {at b : ℕ} {read : Read} {answer : Next} → Plain (s .mode) → divider b ≡ true → s .token < at → at ≤ length (e .text)
     → ((m : Memory) (next : machine.Mode → Memory → machine.State) → m .steps ≡ s .steps → Shown (benchOf e) (lentOf t) (s .counts) m
     → Reads e t′ (s .token) next (machine.onToken (database (e .file)) (e .asked) (roomOf (e .limits)) m (modeOf (s .mode)) (s .token) (range (s .token) at (e .text)) next) read)
-    → Keeps t′ (s .steps) read → After read at (s .token) answer → ReadsByte e t t′ s at b answer
+    → Keeps (widthOf e) t′ (s .steps) read → After read at (s .token) answer → ReadsByte e t t′ s at b answer
 unfolding machine.onByte machine.onPlain pick
 plain-token {e} {t} {t′} {s} {at} {b} plain divides some inside reads keeps next =
     record {
-      keeps = next .keeps t′ (s .steps) keeps;
+      keeps = next .keeps (widthOf e) t′ (s .steps) keeps;
       follows = λ d st.
           let size = range-length (s .token) at (e .text) (omega arith) inside in
           let from-is : at - length (range (s .token) at (e .text)) ≡ s .token = omega arith in

@@ -30,6 +30,7 @@ pub record SameSizes (t₀ t : Tables) : Type 0 where
   pub stack : length (t .stack) ≡ length (t₀ .stack)
   pub places : length (t .places) ≡ length (t₀ .places)
   pub locals : length (t .locals) ≡ length (t₀ .locals)
+  pub tree : length (t .tree) ≡ length (t₀ .tree)
 
 -- so far: the code stands where the definition stands, and what is left to read is what the whole reads
 pub record SoFar (e : Env) (t₀ t : Tables) (s₀ s : State) (i : ℕ) : Type 0 where
@@ -46,12 +47,12 @@ pub record SoFar (e : Env) (t₀ t : Tables) (s₀ s : State) (i : ℕ) : Type 0
 
 pub so-far-none : {e : Env} {t : Tables} {s : State} → Running e t (s .counts) → Low (s .mode) → s .steps ≡ 0 → s .token ≡ 0 → SoFar e t t s s 0
 so-far-none r l n b =
-    record { running = r; low = l; few = omega arith; begun = omega arith; within = omega arith; sizes = record { seats = refl; froms = refl; tos = refl; sets = refl; numbers = refl; pool = refl; stack = refl; places = refl; locals = refl }; follows = λ d st. (d, st, refl) }
+    record { running = r; low = l; few = omega arith; begun = omega arith; within = omega arith; sizes = record { seats = refl; froms = refl; tos = refl; sets = refl; numbers = refl; pool = refl; stack = refl; places = refl; locals = refl; tree = refl }; follows = λ d st. (d, st, refl) }
 
--- the tables do not tell the steps
+-- the tables do not tell the steps (they bound them and the hypotheses consumed from below)
 withSteps : Memory → ℕ → Memory
 withSteps m n =
-    record { variables = m .variables; pool = m .pool; places = m .places; locals = m .locals; stack = m .stack; steps = n; consumed = m .consumed }
+    record { variables = m .variables; pool = m .pool; places = m .places; locals = m .locals; stack = m .stack; steps = n; consumed = m .steps + m .consumed }
 
 restep : {b : Bench} {l : Lent} {c : Counts} {m : Memory} (n : ℕ) → Shown b l c m → Shown b l c (withSteps m n)
 unfolding withSteps
@@ -77,6 +78,9 @@ restep n s =
       locals = s .locals;
       locals-few = s .locals-few;
       locals-sized = s .locals-sized;
+      tree-limit = s .tree-limit;
+      nodes-few = let f = s .nodes-few in omega arith;
+      derivations = s .derivations;
     }
 
 -- somewhere the definition stands where the code stands
@@ -137,6 +141,7 @@ module _ {e : Env} {t₀ t : Tables} {s₀ s : State} {i b : ℕ} (so : SoFar e 
               stack = same-sizes .stack ∙ so .sizes .stack;
               places = same-sizes .places ∙ so .sizes .places;
               locals = same-sizes .locals ∙ so .sizes .locals;
+              tree = same-sizes .tree ∙ so .sizes .tree;
             };
         follows = λ d₀ st₀.
             let w = so .follows d₀ st₀ in

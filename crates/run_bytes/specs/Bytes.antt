@@ -14,7 +14,7 @@ use Rattle.run_bytes.specs.declared.State.{State}
 use Rattle.run_bytes.specs.declared.Stopped.{Stopped}
 use Rattle.run_bytes.specs.declared.Next.{Next}
 use Rattle.run_bytes.specs.declared.Next.the-variants.{Going, Over}
-use Rattle.run.specs.Running.{Env, Tables, Sized, Running, benchOf, lentOf}
+use Rattle.run.specs.Running.{Env, Tables, Sized, Running, benchOf, lentOf, widthOf}
 use Rattle.run.specs.Reads.{modeOf, Low, Reads, Keeps}
 
 -- before the byte at `at`, the code stands where the definition stands
@@ -30,21 +30,21 @@ pub data Alike (e : Env) (t : Tables) (at : ℕ) : machine.State → Next → Ty
   going : {d : machine.Standing} {s : State} → Stands e t s at d → Alike e t at (machine.going d) (Going s)
   over : {x : Stopped} → Alike e t at (machine.over (refused (x .why) (x .place) (x .steps))) (Over x)
 
--- what a state that goes on keeps
-pub record KeepsState (t : Tables) (steps at : ℕ) (answer : Next) : Type 0 where
-  pub sized : (s : State) → answer ≡ Going s → Sized t (s .counts .used)
+-- what a state that goes on keeps, where the file has n symbols
+pub record KeepsState (n : ℕ) (t : Tables) (steps at : ℕ) (answer : Next) : Type 0 where
+  pub sized : (s : State) → answer ≡ Going s → Sized n t (s .counts .used)
   pub low : (s : State) → answer ≡ Going s → Low (s .mode)
   pub few : (s : State) → answer ≡ Going s → s .steps ≤ steps + 1
   pub begun : (s : State) → answer ≡ Going s → s .token ≤ at
 
 -- what is read goes on after the byte at `at`, with no token begun; a refusal has its place
 pub record After (read : Read) (at place : ℕ) (answer : Next) : Type 0 where
-  pub keeps : (t : Tables) (steps : ℕ) → Keeps t steps read → KeepsState t steps (at + 1) answer
+  pub keeps : (n : ℕ) (t : Tables) (steps : ℕ) → Keeps n t steps read → KeepsState n t steps (at + 1) answer
   pub alike : (e : Env) (t : Tables) (state : machine.State) → Reads e t place (machine.goOn at) state read → Alike e t (at + 1) state answer
 
 -- a byte is read as the definition reads it
 pub record ReadsByte (e : Env) (t t′ : Tables) (s : State) (at b : ℕ) (answer : Next) : Type 0 where
-  pub keeps : KeepsState t′ (s .steps) (at + 1) answer
+  pub keeps : KeepsState (widthOf e) t′ (s .steps) (at + 1) answer
   pub follows : (d : machine.Standing) → Stands e t s at d
       → Alike e t′ (at + 1) (machine.onByte (database (e .file)) (e .asked) (roomOf (e .limits)) (machine.going d) b) answer
 

@@ -83,15 +83,16 @@ fn letter_byte(
     stack: &mut [u64],
     places: &mut [u64],
     locals: &mut [u32],
+    tree: &mut [u64],
     limits: Limits,
     s: State,
     k: usize,
     saves: bool,
     at: usize,
 ) -> Next
-    requires { ⌜ Running (env (now file) (now symbols) (now statements) (p .0) (now text) (now table) limits) (tables (now seats) (now froms) (now tos) (now sets) (now numbers) (now pool) (now stack) (now places) (now locals)) (s .counts) ⌝ }
+    requires { ⌜ Running (env (now file) (now symbols) (now statements) (p .0) (now text) (now table) limits) (tables (now seats) (now froms) (now tos) (now sets) (now numbers) (now pool) (now stack) (now places) (now locals) (now tree)) (s .counts) ⌝ }
     requires low { ⌜ ((k < kLimit) × (s .steps ≤ 65536)) × ((s .mode ≡ Letters k saves) × (at < length (now text))) ⌝ }
-    ensures { λ r. ⌜ ReadsByte (env (now (file .entry)) (now (symbols .entry)) (now (statements .entry)) (p .0) (now (text .entry)) (now (table .entry)) limits) (tables (now (seats .entry)) (now (froms .entry)) (now (tos .entry)) (now (sets .entry)) (now (numbers .entry)) (now (pool .entry)) (now (stack .entry)) (now (places .entry)) (now (locals .entry))) (tables (now (seats .exit)) (now (froms .exit)) (now (tos .exit)) (now (sets .exit)) (now (numbers .exit)) (now (pool .exit)) (now (stack .exit)) (now (places .exit)) (now (locals .exit))) s at (getD (now (text .entry)) at 0) r ⌝ }
+    ensures { λ r. ⌜ ReadsByte (env (now (file .entry)) (now (symbols .entry)) (now (statements .entry)) (p .0) (now (text .entry)) (now (table .entry)) limits) (tables (now (seats .entry)) (now (froms .entry)) (now (tos .entry)) (now (sets .entry)) (now (numbers .entry)) (now (pool .entry)) (now (stack .entry)) (now (places .entry)) (now (locals .entry)) (now (tree .entry))) (tables (now (seats .exit)) (now (froms .exit)) (now (tos .exit)) (now (sets .exit)) (now (numbers .exit)) (now (pool .exit)) (now (stack .exit)) (now (places .exit)) (now (locals .exit)) (now (tree .exit))) s at (getD (now (text .entry)) at 0) r ⌝ }
 {
     let c = s.counts;
     let b = text[at];
@@ -99,7 +100,7 @@ fn letter_byte(
         file,
         symbols,
         statements,
-        p.0,
+        p,
         text,
         table,
         seats,
@@ -111,6 +112,7 @@ fn letter_byte(
         stack,
         places,
         locals,
+        tree,
         c,
         limits,
         k,
@@ -139,15 +141,16 @@ fn end_token(
     stack: &mut [u64],
     places: &mut [u64],
     locals: &mut [u32],
+    tree: &mut [u64],
     limits: Limits,
     s: State,
     mode: Mode,
     at: usize,
 ) -> Next
     requires { ⌜ Labelled (now file) (now statements) (now labels) ⌝ }
-    requires { ⌜ Running (env (now file) (now symbols) (now statements) (p .0) (now text) (now table) limits) (tables (now seats) (now froms) (now tos) (now sets) (now numbers) (now pool) (now stack) (now places) (now locals)) (s .counts) ⌝ }
+    requires { ⌜ Running (env (now file) (now symbols) (now statements) (p .0) (now text) (now table) limits) (tables (now seats) (now froms) (now tos) (now sets) (now numbers) (now pool) (now stack) (now places) (now locals) (now tree)) (s .counts) ⌝ }
     requires low { ⌜ ((Low mode × (s .steps ≤ 65536)) × ((s .mode ≡ mode) × Plain mode)) × (((s .token < at) × (at < length (now text))) × (reading.divider (getD (now text) at 0) ≡ true)) ⌝ }
-    ensures { λ r. ⌜ ReadsByte (env (now (file .entry)) (now (symbols .entry)) (now (statements .entry)) (p .0) (now (text .entry)) (now (table .entry)) limits) (tables (now (seats .entry)) (now (froms .entry)) (now (tos .entry)) (now (sets .entry)) (now (numbers .entry)) (now (pool .entry)) (now (stack .entry)) (now (places .entry)) (now (locals .entry))) (tables (now (seats .exit)) (now (froms .exit)) (now (tos .exit)) (now (sets .exit)) (now (numbers .exit)) (now (pool .exit)) (now (stack .exit)) (now (places .exit)) (now (locals .exit))) s at (getD (now (text .entry)) at 0) r ⌝ }
+    ensures { λ r. ⌜ ReadsByte (env (now (file .entry)) (now (symbols .entry)) (now (statements .entry)) (p .0) (now (text .entry)) (now (table .entry)) limits) (tables (now (seats .entry)) (now (froms .entry)) (now (tos .entry)) (now (sets .entry)) (now (numbers .entry)) (now (pool .entry)) (now (stack .entry)) (now (places .entry)) (now (locals .entry)) (now (tree .entry))) (tables (now (seats .exit)) (now (froms .exit)) (now (tos .exit)) (now (sets .exit)) (now (numbers .exit)) (now (pool .exit)) (now (stack .exit)) (now (places .exit)) (now (locals .exit)) (now (tree .exit))) s at (getD (now (text .entry)) at 0) r ⌝ }
 {
     let c = s.counts;
     let from = s.token;
@@ -169,6 +172,7 @@ fn end_token(
         stack,
         places,
         locals,
+        tree,
         from,
         at,
         c,
@@ -196,15 +200,16 @@ fn plain_byte(
     stack: &mut [u64],
     places: &mut [u64],
     locals: &mut [u32],
+    tree: &mut [u64],
     limits: Limits,
     s: State,
     mode: Mode,
     at: usize,
 ) -> Next
     requires { ⌜ Labelled (now file) (now statements) (now labels) ⌝ }
-    requires { ⌜ Running (env (now file) (now symbols) (now statements) (p .0) (now text) (now table) limits) (tables (now seats) (now froms) (now tos) (now sets) (now numbers) (now pool) (now stack) (now places) (now locals)) (s .counts) ⌝ }
+    requires { ⌜ Running (env (now file) (now symbols) (now statements) (p .0) (now text) (now table) limits) (tables (now seats) (now froms) (now tos) (now sets) (now numbers) (now pool) (now stack) (now places) (now locals) (now tree)) (s .counts) ⌝ }
     requires low { ⌜ ((Low mode × (s .steps ≤ 65536)) × ((s .mode ≡ mode) × Plain mode)) × ((s .token ≤ at) × (at < length (now text))) ⌝ }
-    ensures { λ r. ⌜ ReadsByte (env (now (file .entry)) (now (symbols .entry)) (now (statements .entry)) (p .0) (now (text .entry)) (now (table .entry)) limits) (tables (now (seats .entry)) (now (froms .entry)) (now (tos .entry)) (now (sets .entry)) (now (numbers .entry)) (now (pool .entry)) (now (stack .entry)) (now (places .entry)) (now (locals .entry))) (tables (now (seats .exit)) (now (froms .exit)) (now (tos .exit)) (now (sets .exit)) (now (numbers .exit)) (now (pool .exit)) (now (stack .exit)) (now (places .exit)) (now (locals .exit))) s at (getD (now (text .entry)) at 0) r ⌝ }
+    ensures { λ r. ⌜ ReadsByte (env (now (file .entry)) (now (symbols .entry)) (now (statements .entry)) (p .0) (now (text .entry)) (now (table .entry)) limits) (tables (now (seats .entry)) (now (froms .entry)) (now (tos .entry)) (now (sets .entry)) (now (numbers .entry)) (now (pool .entry)) (now (stack .entry)) (now (places .entry)) (now (locals .entry)) (now (tree .entry))) (tables (now (seats .exit)) (now (froms .exit)) (now (tos .exit)) (now (sets .exit)) (now (numbers .exit)) (now (pool .exit)) (now (stack .exit)) (now (places .exit)) (now (locals .exit)) (now (tree .exit))) s at (getD (now (text .entry)) at 0) r ⌝ }
 {
     if divider(text[at]) {
         if s.token < at {
@@ -225,6 +230,7 @@ fn plain_byte(
                 stack,
                 places,
                 locals,
+                tree,
                 limits,
                 s,
                 mode,
@@ -260,14 +266,15 @@ fn on_byte(
     stack: &mut [u64],
     places: &mut [u64],
     locals: &mut [u32],
+    tree: &mut [u64],
     limits: Limits,
     s: State,
     at: usize,
 ) -> Next
     requires { ⌜ Labelled (now file) (now statements) (now labels) ⌝ }
-    requires { ⌜ Running (env (now file) (now symbols) (now statements) (p .0) (now text) (now table) limits) (tables (now seats) (now froms) (now tos) (now sets) (now numbers) (now pool) (now stack) (now places) (now locals)) (s .counts) ⌝ }
+    requires { ⌜ Running (env (now file) (now symbols) (now statements) (p .0) (now text) (now table) limits) (tables (now seats) (now froms) (now tos) (now sets) (now numbers) (now pool) (now stack) (now places) (now locals) (now tree)) (s .counts) ⌝ }
     requires low { ⌜ (Low (s .mode) × (s .steps ≤ 65536)) × ((s .token ≤ at) × (at < length (now text))) ⌝ }
-    ensures { λ r. ⌜ ReadsByte (env (now (file .entry)) (now (symbols .entry)) (now (statements .entry)) (p .0) (now (text .entry)) (now (table .entry)) limits) (tables (now (seats .entry)) (now (froms .entry)) (now (tos .entry)) (now (sets .entry)) (now (numbers .entry)) (now (pool .entry)) (now (stack .entry)) (now (places .entry)) (now (locals .entry))) (tables (now (seats .exit)) (now (froms .exit)) (now (tos .exit)) (now (sets .exit)) (now (numbers .exit)) (now (pool .exit)) (now (stack .exit)) (now (places .exit)) (now (locals .exit))) s at (getD (now (text .entry)) at 0) r ⌝ }
+    ensures { λ r. ⌜ ReadsByte (env (now (file .entry)) (now (symbols .entry)) (now (statements .entry)) (p .0) (now (text .entry)) (now (table .entry)) limits) (tables (now (seats .entry)) (now (froms .entry)) (now (tos .entry)) (now (sets .entry)) (now (numbers .entry)) (now (pool .entry)) (now (stack .entry)) (now (places .entry)) (now (locals .entry)) (now (tree .entry))) (tables (now (seats .exit)) (now (froms .exit)) (now (tos .exit)) (now (sets .exit)) (now (numbers .exit)) (now (pool .exit)) (now (stack .exit)) (now (places .exit)) (now (locals .exit)) (now (tree .exit))) s at (getD (now (text .entry)) at 0) r ⌝ }
 {
     let mode = s.mode;
     match mode {
@@ -287,6 +294,7 @@ fn on_byte(
             stack,
             places,
             locals,
+            tree,
             limits,
             s,
             k,
@@ -310,6 +318,7 @@ fn on_byte(
             stack,
             places,
             locals,
+            tree,
             limits,
             s,
             Mode::Beginning,
@@ -332,6 +341,7 @@ fn on_byte(
             stack,
             places,
             locals,
+            tree,
             limits,
             s,
             Mode::Normal,
@@ -354,6 +364,7 @@ fn on_byte(
             stack,
             places,
             locals,
+            tree,
             limits,
             s,
             Mode::Roster,
@@ -380,13 +391,14 @@ pub fn read_text(
     stack: &mut [u64],
     places: &mut [u64],
     locals: &mut [u32],
+    tree: &mut [u64],
     limits: Limits,
     start: State,
 ) -> Next
     requires { ⌜ Labelled (now file) (now statements) (now labels) ⌝ }
-    requires { ⌜ Running (env (now file) (now symbols) (now statements) (p .0) (now text) (now table) limits) (tables (now seats) (now froms) (now tos) (now sets) (now numbers) (now pool) (now stack) (now places) (now locals)) (start .counts) ⌝ }
+    requires { ⌜ Running (env (now file) (now symbols) (now statements) (p .0) (now text) (now table) limits) (tables (now seats) (now froms) (now tos) (now sets) (now numbers) (now pool) (now stack) (now places) (now locals) (now tree)) (start .counts) ⌝ }
     requires low { ⌜ (Low (start .mode) × (start .steps ≡ 0)) × (start .token ≡ 0) ⌝ }
-    ensures { λ r. ⌜ ReadsText (env (now (file .entry)) (now (symbols .entry)) (now (statements .entry)) (p .0) (now (text .entry)) (now (table .entry)) limits) (tables (now (seats .entry)) (now (froms .entry)) (now (tos .entry)) (now (sets .entry)) (now (numbers .entry)) (now (pool .entry)) (now (stack .entry)) (now (places .entry)) (now (locals .entry))) (tables (now (seats .exit)) (now (froms .exit)) (now (tos .exit)) (now (sets .exit)) (now (numbers .exit)) (now (pool .exit)) (now (stack .exit)) (now (places .exit)) (now (locals .exit))) start r ⌝ }
+    ensures { λ r. ⌜ ReadsText (env (now (file .entry)) (now (symbols .entry)) (now (statements .entry)) (p .0) (now (text .entry)) (now (table .entry)) limits) (tables (now (seats .entry)) (now (froms .entry)) (now (tos .entry)) (now (sets .entry)) (now (numbers .entry)) (now (pool .entry)) (now (stack .entry)) (now (places .entry)) (now (locals .entry)) (now (tree .entry))) (tables (now (seats .exit)) (now (froms .exit)) (now (tos .exit)) (now (sets .exit)) (now (numbers .exit)) (now (pool .exit)) (now (stack .exit)) (now (places .exit)) (now (locals .exit)) (now (tree .exit))) start r ⌝ }
 {
     let mut s = start;
     let mut i = 0;
@@ -408,6 +420,7 @@ pub fn read_text(
             stack,
             places,
             locals,
+            tree,
             limits,
             s,
             i,

@@ -39,11 +39,11 @@ refused-there : {e : Env} {t : Tables} {place n steps : ℕ} {why : Refusal} {ne
 refused-there n = rw n stops
 
 -- the step of a letter
-module _ {f syms stmts : List ℕ} {p : ℕ} {text table : List ℕ} {limits : Limits} {seats froms tos sets numbers pool stack places locals : List ℕ} {c : Counts}
-    (r : Running (env f syms stmts p text table limits) (tables seats froms tos sets numbers pool stack places locals) c) where
-  place-follows : {n : ℕ} {froms′ tos′ sets′ pool′ stack′ : List ℕ} {answer : Outcome} → RunsPlace f syms stmts text table froms tos sets pool stack places n c limits 0 0 froms′ tos′ sets′ pool′ stack′ answer
-      → (m : Memory) → Shown (bench f syms stmts p limits text) (lent numbers pool stack places locals) c m
-      → Ends (Shown (bench f syms stmts p limits text) (lent numbers pool′ stack′ places locals)) (machine.stepAt (database f) p (roomOf limits) m n) answer
+module _ {f syms stmts : List ℕ} {p : ℕ} {text table : List ℕ} {limits : Limits} {seats froms tos sets numbers pool stack places locals tree : List ℕ} {c : Counts}
+    (r : Running (env f syms stmts p text table limits) (tables seats froms tos sets numbers pool stack places locals tree) c) where
+  place-follows : {n : ℕ} {froms′ tos′ sets′ pool′ stack′ tree′ : List ℕ} {answer : Outcome} → RunsPlace f syms stmts text table froms tos sets pool stack tree places n c limits 0 0 froms′ tos′ sets′ pool′ stack′ tree′ answer
+      → (m : Memory) → Shown (bench f syms stmts p limits text) (lent numbers pool stack places locals tree) c m
+      → Ends (Shown (bench f syms stmts p limits text) (lent numbers pool′ stack′ places locals tree′)) (machine.stepAt (database f) p (roomOf limits) m n) answer
   unfolding machine.stepAt markOf
   place-follows runs m s =
       let z = r .sized in
@@ -53,10 +53,10 @@ module _ {f syms stmts : List ℕ} {p : ℕ} {text table : List ℕ} {limits : L
       runs .follows p numbers locals m (r .checked .filed) (r .checked .asked) (r .checked .under) (omega arith) (omega arith) (omega arith) s
 
 -- `A`..`T`
-module _ {f syms stmts : List ℕ} {p : ℕ} {text table : List ℕ} {limits : Limits} {seats seats′ froms tos sets numbers pool stack places locals froms′ tos′ sets′ pool′ stack′ : List ℕ} {c : Counts} {k d steps : ℕ}
-    (r : Running (env f syms stmts p text table limits) (tables seats froms tos sets numbers pool stack places locals) c) where
-  pub last-go : {c′ : Counts} → length seats′ ≡ length seats → RunsPlace f syms stmts text table froms tos sets pool stack places (20 * k + d) c limits 0 0 froms′ tos′ sets′ pool′ stack′ (outcome.Go c′)
-      → LastLetter (env f syms stmts p text table limits) (tables seats froms tos sets numbers pool stack places locals) (tables seats′ froms′ tos′ sets′ numbers pool′ stack′ places locals) c k d steps
+module _ {f syms stmts : List ℕ} {p : ℕ} {text table : List ℕ} {limits : Limits} {seats seats′ froms tos sets numbers pool stack places locals tree froms′ tos′ sets′ pool′ stack′ tree′ : List ℕ} {c : Counts} {k d steps : ℕ}
+    (r : Running (env f syms stmts p text table limits) (tables seats froms tos sets numbers pool stack places locals tree) c) where
+  pub last-go : {c′ : Counts} → length seats′ ≡ length seats → RunsPlace f syms stmts text table froms tos sets pool stack tree places (20 * k + d) c limits 0 0 froms′ tos′ sets′ pool′ stack′ tree′ (outcome.Go c′)
+      → LastLetter (env f syms stmts p text table limits) (tables seats froms tos sets numbers pool stack places locals tree) (tables seats′ froms′ tos′ sets′ numbers pool′ stack′ places locals tree′) c k d steps
       (Go (Letters 0 true) c′ (steps + 1))
   unfolding machine.onLetter modeOf
   last-go {c′} same-seats runs canSave =
@@ -77,8 +77,8 @@ module _ {f syms stmts : List ℕ} {p : ℕ} {text table : List ℕ} {limits : L
             settled-go (m .steps) (machine.goOn at) (Letters 0 true) (w .1) (w .2) (let n′ = steps-out (step-at-steps _ _ _ _ _) (w .1) in omega arith);
       }
 
-  pub last-stop : {why : Refusal} → RunsPlace f syms stmts text table froms tos sets pool stack places (20 * k + d) c limits 0 0 froms′ tos′ sets′ pool′ stack′ (outcome.Refused why)
-      → LastLetter (env f syms stmts p text table limits) (tables seats froms tos sets numbers pool stack places locals) (tables seats′ froms′ tos′ sets′ numbers pool′ stack′ places locals) c k d steps
+  pub last-stop : {why : Refusal} → RunsPlace f syms stmts text table froms tos sets pool stack tree places (20 * k + d) c limits 0 0 froms′ tos′ sets′ pool′ stack′ tree′ (outcome.Refused why)
+      → LastLetter (env f syms stmts p text table limits) (tables seats froms tos sets numbers pool stack places locals tree) (tables seats′ froms′ tos′ sets′ numbers pool′ stack′ places locals tree′) c k d steps
       (Stop why steps)
   unfolding machine.onLetter
   last-stop runs canSave =

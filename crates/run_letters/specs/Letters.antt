@@ -11,12 +11,12 @@ use Rattle.machine.specs.Run.{goOn, onLetter}
 use Rattle.memory.specs.declared.Counts.{Counts}
 use Rattle.memory.specs.Shown.{roomOf, Shown}
 use Rattle.run.specs.declared.Read.{Read}
-use Rattle.run.specs.Running.{Env, Tables, Sized, Running, benchOf, lentOf, withPlacesOf}
+use Rattle.run.specs.Running.{Env, Tables, Sized, Running, widthOf, benchOf, lentOf, withPlacesOf}
 use Rattle.run.specs.Reads.{Reads, Keeps}
 
 -- a letter is read as the definition reads it
 pub record ReadsLetter (e : Env) (t t′ : Tables) (c : Counts) (k : ℕ) (canSave : Bool) (steps : ℕ) (letter : Letter) (answer : Read) : Type 0 where
-  pub keeps : Keeps t′ steps answer
+  pub keeps : Keeps (widthOf e) t′ steps answer
   pub follows : (m : Memory) (at : ℕ) → m .steps ≡ steps → Shown (benchOf e) (lentOf t) c m
       → Reads e t′ at (goOn at) (onLetter (database (e .file)) (e .asked) (roomOf (e .limits)) m k canSave at letter) answer
 
@@ -26,7 +26,7 @@ LastLetter e t t′ c k d steps answer = (canSave : Bool) → ReadsLetter e t t�
 
 -- `U`..`Y`
 pub record HigherLetter (c : Counts) (k d steps : ℕ) (answer : Read) : Type 0 where
-  pub reads : (e : Env) (t : Tables) (canSave : Bool) → Sized t (c .used) → ReadsLetter e t t c k canSave steps (Higher d) answer
+  pub reads : (e : Env) (t : Tables) (canSave : Bool) → Sized (widthOf e) t (c .used) → ReadsLetter e t t c k canSave steps (Higher d) answer
 
 -- `Z`
 pub record SaveLetter (stack places places′ : List ℕ) (c : Counts) (limit k : ℕ) (canSave : Bool) (steps : ℕ) (answer : Read) : Type 0 where
@@ -39,4 +39,4 @@ pub record IncompleteLetter (k steps : ℕ) (answer : Read) : Type 0 where
 
 -- any other byte is passed over
 pub record IgnoredLetter (c : Counts) (k : ℕ) (canSave : Bool) (steps : ℕ) (answer : Read) : Type 0 where
-  pub reads : (e : Env) (t : Tables) → Sized t (c .used) → ReadsLetter e t t c k canSave steps Ignored answer
+  pub reads : (e : Env) (t : Tables) → Sized (widthOf e) t (c .used) → ReadsLetter e t t c k canSave steps Ignored answer

@@ -8,6 +8,7 @@ ghost use Rattle.run_letters.specs.Letters.{LastLetter, HigherLetter, Sa
 ghost use Rattle.machine.specs.Reading as reading;
 use engine::place::run_place;
 use frames::numbers::PlaceNo;
+use frames::numbers::StatementNo;
 use machine::Letter;
 use machine::Refusal;
 use memory::Counts;
@@ -33,7 +34,7 @@ fn last_letter(
     file: &[u8],
     symbols: &[u32],
     statements: &[u32],
-    p: usize,
+    p: StatementNo,
     text: &[u8],
     table: &[u64],
     seats: &mut [u32],
@@ -45,15 +46,16 @@ fn last_letter(
     stack: &mut [u64],
     places: &[u64],
     locals: &[u32],
+    tree: &mut [u64],
     c: Counts,
     limits: Limits,
     k: usize,
     d: usize,
     steps: usize,
 ) -> Read
-    requires { ⌜ Running (env (now file) (now symbols) (now statements) p (now text) (now table) limits) (tables (now seats) (now froms) (now tos) (now sets) (now numbers) (now pool) (now stack) (now places) (now locals)) c ⌝ }
+    requires { ⌜ Running (env (now file) (now symbols) (now statements) (p .0) (now text) (now table) limits) (tables (now seats) (now froms) (now tos) (now sets) (now numbers) (now pool) (now stack) (now places) (now locals) (now tree)) c ⌝ }
     requires low { ⌜ (k < kLimit) × ((d < 20) × (steps ≤ 65536)) ⌝ }
-    ensures { λ r. ⌜ LastLetter (env (now (file .entry)) (now (symbols .entry)) (now (statements .entry)) p (now (text .entry)) (now (table .entry)) limits) (tables (now (seats .entry)) (now (froms .entry)) (now (tos .entry)) (now (sets .entry)) (now (numbers .entry)) (now (pool .entry)) (now (stack .entry)) (now (places .entry)) (now (locals .entry))) (tables (now (seats .exit)) (now (froms .exit)) (now (tos .exit)) (now (sets .exit)) (now (numbers .entry)) (now (pool .exit)) (now (stack .exit)) (now (places .entry)) (now (locals .entry))) c k d steps r ⌝ }
+    ensures { λ r. ⌜ LastLetter (env (now (file .entry)) (now (symbols .entry)) (now (statements .entry)) (p .0) (now (text .entry)) (now (table .entry)) limits) (tables (now (seats .entry)) (now (froms .entry)) (now (tos .entry)) (now (sets .entry)) (now (numbers .entry)) (now (pool .entry)) (now (stack .entry)) (now (places .entry)) (now (locals .entry)) (now (tree .entry))) (tables (now (seats .exit)) (now (froms .exit)) (now (tos .exit)) (now (sets .exit)) (now (numbers .entry)) (now (pool .exit)) (now (stack .exit)) (now (places .entry)) (now (locals .entry)) (now (tree .exit))) c k d steps r ⌝ }
 {
     match run_place(
         file,
@@ -67,6 +69,7 @@ fn last_letter(
         sets,
         pool,
         stack,
+        tree,
         places,
         PlaceNo(20 * k + d),
         c,
@@ -172,7 +175,7 @@ pub fn on_letter(
     file: &[u8],
     symbols: &[u32],
     statements: &[u32],
-    p: usize,
+    p: StatementNo,
     text: &[u8],
     table: &[u64],
     seats: &mut [u32],
@@ -184,6 +187,7 @@ pub fn on_letter(
     stack: &mut [u64],
     places: &mut [u64],
     locals: &[u32],
+    tree: &mut [u64],
     c: Counts,
     limits: Limits,
     k: usize,
@@ -191,9 +195,9 @@ pub fn on_letter(
     b: u8,
     steps: usize,
 ) -> Read
-    requires { ⌜ Running (env (now file) (now symbols) (now statements) p (now text) (now table) limits) (tables (now seats) (now froms) (now tos) (now sets) (now numbers) (now pool) (now stack) (now places) (now locals)) c ⌝ }
+    requires { ⌜ Running (env (now file) (now symbols) (now statements) (p .0) (now text) (now table) limits) (tables (now seats) (now froms) (now tos) (now sets) (now numbers) (now pool) (now stack) (now places) (now locals) (now tree)) c ⌝ }
     requires low { ⌜ (k < kLimit) × (steps ≤ 65536) ⌝ }
-    ensures { λ r. ⌜ ReadsLetter (env (now (file .entry)) (now (symbols .entry)) (now (statements .entry)) p (now (text .entry)) (now (table .entry)) limits) (tables (now (seats .entry)) (now (froms .entry)) (now (tos .entry)) (now (sets .entry)) (now (numbers .entry)) (now (pool .entry)) (now (stack .entry)) (now (places .entry)) (now (locals .entry))) (tables (now (seats .exit)) (now (froms .exit)) (now (tos .exit)) (now (sets .exit)) (now (numbers .entry)) (now (pool .exit)) (now (stack .exit)) (now (places .exit)) (now (locals .entry))) c k saves steps (reading.letter b) r ⌝ }
+    ensures { λ r. ⌜ ReadsLetter (env (now (file .entry)) (now (symbols .entry)) (now (statements .entry)) (p .0) (now (text .entry)) (now (table .entry)) limits) (tables (now (seats .entry)) (now (froms .entry)) (now (tos .entry)) (now (sets .entry)) (now (numbers .entry)) (now (pool .entry)) (now (stack .entry)) (now (places .entry)) (now (locals .entry)) (now (tree .entry))) (tables (now (seats .exit)) (now (froms .exit)) (now (tos .exit)) (now (sets .exit)) (now (numbers .entry)) (now (pool .exit)) (now (stack .exit)) (now (places .exit)) (now (locals .entry)) (now (tree .exit))) c k saves steps (reading.letter b) r ⌝ }
 {
     match letter(b) {
         Letter::Last(d) => last_letter(
@@ -212,6 +216,7 @@ pub fn on_letter(
             stack,
             places,
             locals,
+            tree,
             c,
             limits,
             k,

@@ -25,7 +25,7 @@ use Rattle.memory.proofs.Ending.{ends-go, ends-refused}
 use Rattle.apply.proofs.OneHyp.{ranged-more}
 use Rattle.engine.specs.Ready.{Bounded}
 use Rattle.engine.specs.Roster.{PreparesRoster, Preloads}
-use Rattle.run.specs.Running.{Env, Tables, tables, Sized, Running, Proceeds, benchOf, lentOf}
+use Rattle.run.specs.Running.{Env, Tables, tables, Sized, Running, Proceeds, benchOf, lentOf, widthOf}
 use Rattle.run.specs.declared.Mode.{Mode}
 use Rattle.run.specs.declared.Mode.the-variants.{Beginning, Normal, Roster, Letters}
 use Rattle.run.specs.declared.Read.{Read}
@@ -36,7 +36,7 @@ use Rattle.run.proofs.Settling.{settled-go, stopped, keeps-stop, keeps-go}
 
 -- what takes places in the roster
 module _ {e : Env} {t t′ : Tables} {c : Counts} {op : Memory → Result Memory} (counts : (m : Memory) → Gives (StepsAre (m .steps)) (op m)) where
-  roster-keeps : (outcome : Outcome) (steps : ℕ) → Proceeds e t t′ c op outcome → Keeps t′ steps (rosterRead outcome steps)
+  roster-keeps : (outcome : Outcome) (steps : ℕ) → Proceeds e t t′ c op outcome → Keeps (widthOf e) t′ steps (rosterRead outcome steps)
   unfolding rosterRead
   roster-keeps (Go c′) steps takes = keeps-go (takes .sized c′ refl) roster (omega arith)
   roster-keeps (Refused why) steps takes = keeps-stop
@@ -52,7 +52,7 @@ module _ {e : Env} {t t′ : Tables} {c : Counts} {op : Memory → Result Memory
 
 -- the tables with these numbers, this pool and these places
 abbrev withRoster : Tables → List ℕ → List ℕ → List ℕ → Tables
-withRoster t numbers pool places = tables (t .seats) (t .froms) (t .tos) (t .sets) numbers pool (t .stack) places (t .locals)
+withRoster t numbers pool places = tables (t .seats) (t .froms) (t .tos) (t .sets) numbers pool (t .stack) places (t .locals) (t .tree)
 
 module _ {e : Env} {t : Tables} {c : Counts} (r : Running e t c) where
   -- what the roster asks for
@@ -61,7 +61,7 @@ module _ {e : Env} {t : Tables} {c : Counts} (r : Running e t c) where
       let s = r .shown in
       ((record { variables = s .variables-few; pool = s .pool-few; places = s .places-few }, s .pool-sized), (s .places-sized, s .places-limit))
 
-  sized-more : {used : ℕ} (numbers pool places : List ℕ) → c .used ≤ used → Sized (withRoster t numbers pool places) used
+  sized-more : {used : ℕ} (numbers pool places : List ℕ) → c .used ≤ used → Sized (widthOf e) (withRoster t numbers pool places) used
   sized-more numbers pool places more =
       let z = r .sized in
       record { seats = z .seats; froms = z .froms; tos = z .tos; sets = z .sets; ranged = ranged-more more (z .ranged) }
@@ -75,7 +75,7 @@ module _ {e : Env} {t : Tables} {c : Counts} (r : Running e t c) where
       record {
         sized = λ c′ is. sized-more _ _ _ (takes .taken c′ is .used);
         follows = λ m shown.
-            takes .follows (e .asked) (e .text) (t .stack) (t .locals) m (k .filed) (rw offset (filed-located (k .filed) (e .asked) (k .asked))) shown;
+            takes .follows (e .asked) (e .text) (t .stack) (t .locals) (t .tree) m (k .filed) (rw offset (filed-located (k .filed) (e .asked) (k .asked))) shown;
       }
 
   -- a roster label
@@ -89,7 +89,7 @@ module _ {e : Env} {t : Tables} {c : Counts} (r : Running e t c) where
       let k = r .checked in
       record {
         sized = λ c′ is. sized-more _ _ _ (takes .taken c′ is .used);
-        follows = λ m shown. takes .follows (e .text) (t .stack) (t .locals) m (k .filed) (k .asked) shown;
+        follows = λ m shown. takes .follows (e .text) (t .stack) (t .locals) (t .tree) m (k .filed) (k .asked) shown;
       }
 
   module _ {from to steps : ℕ} where

@@ -39,7 +39,7 @@ use Rattle.apply.specs.Step.{Executes}
 use Rattle.apply.proofs.OneHyp.{ranged-more}
 use Rattle.engine.specs.Ready.{PushesHypothesis}
 use Rattle.engine.specs.Place.{RunsPlace}
-use Rattle.run.specs.Running.{Env, Tables, tables, Sized, Running, Proceeds, benchOf, lentOf}
+use Rattle.run.specs.Running.{Env, Tables, tables, Sized, Running, Proceeds, benchOf, lentOf, widthOf}
 use Rattle.run.specs.declared.Mode.the-variants.{Normal}
 use Rattle.run.specs.declared.Read.{Read}
 use Rattle.run.specs.declared.Read.the-variants as read
@@ -49,9 +49,9 @@ use Rattle.run.proofs.Settling.{settled-go, stopped, keeps-stop, keeps-go, Pool
 
 module _ {e : Env} {t : Tables} {c : Counts} (r : Running e t c) where
   -- the tables of images after a step
-  sized-on : {seats froms tos sets : List ℕ} {used : ℕ} (numbers pool stack : List ℕ) → 64 ≤ length seats → length froms ≡ length (t .froms) → length tos ≡ length (t .tos)
-      → length sets ≡ length (t .sets) → Ranged froms tos (c .used) → c .used ≤ used → Sized (tables seats froms tos sets numbers pool stack (t .places) (t .locals)) used
-  sized-on numbers pool stack a b d g h more =
+  sized-on : {seats froms tos sets : List ℕ} {used : ℕ} (numbers pool stack tree : List ℕ) → 64 ≤ length seats → length froms ≡ length (t .froms) → length tos ≡ length (t .tos)
+      → length sets ≡ length (t .sets) → Ranged froms tos (c .used) → c .used ≤ used → Sized (widthOf e) (tables seats froms tos sets numbers pool stack (t .places) (t .locals) tree) used
+  sized-on numbers pool stack tree a b d g h more =
       let z = r .sized in
       record { seats = a; froms = b ∙ z .froms; tos = d ∙ z .tos; sets = g ∙ z .sets; ranged = ranged-more more h }
 
@@ -67,32 +67,32 @@ module _ {e : Env} {t : Tables} {c : Counts} (r : Running e t c) where
         rw (stands .is, prep .follows (e .symbols) (roomOf (e .limits)) m (k .filed) (k .asked) (shown .locals), is) refl
 
     -- a place
-    pub token-place : {k : PlaceNo} {seats′ froms′ tos′ sets′ pool′ stack′ : List ℕ} {answer : Outcome} → step ≡ Place k → 64 ≤ length seats′
-        → RunsPlace (e .file) (e .symbols) (e .statements) (e .text) (e .table) (t .froms) (t .tos) (t .sets) (t .pool) (t .stack) (t .places) (k .0) c (e .limits) (mark .tag) (mark .end) froms′ tos′ sets′ pool′ stack′ answer
-        → Proceeds e t (tables seats′ froms′ tos′ sets′ (t .numbers) pool′ stack′ (t .places) (t .locals)) c
+    pub token-place : {k : PlaceNo} {seats′ froms′ tos′ sets′ pool′ stack′ tree′ : List ℕ} {answer : Outcome} → step ≡ Place k → 64 ≤ length seats′
+        → RunsPlace (e .file) (e .symbols) (e .statements) (e .text) (e .table) (t .froms) (t .tos) (t .sets) (t .pool) (t .stack) (t .tree) (t .places) (k .0) c (e .limits) (mark .tag) (mark .end) froms′ tos′ sets′ pool′ stack′ tree′ answer
+        → Proceeds e t (tables seats′ froms′ tos′ sets′ (t .numbers) pool′ stack′ (t .places) (t .locals) tree′) c
         (normalStep (database (e .file)) (e .asked) (roomOf (e .limits)) (split token)) answer
     unfolding readied
     token-place is seats runs =
         let k = r .checked in
         let z = r .sized in
         record {
-          sized = λ c′ q. sized-on _ _ _ seats (runs .froms-sized) (runs .tos-sized) (runs .sets-sized) (runs .ranged) (runs .grows c′ q);
+          sized = λ c′ q. sized-on _ _ _ _ seats (runs .froms-sized) (runs .tos-sized) (runs .sets-sized) (runs .ranged) (runs .grows c′ q);
           follows = λ m shown.
               ends-by (named m is shown) refl
               (runs .follows (e .asked) (t .numbers) (t .locals) m (k .filed) (k .asked) (k .under) (let x = z .froms in omega arith) (let x = z .tos in omega arith) (let x = z .sets in omega arith) shown);
         }
 
     -- a $a or $p
-    pub token-frame : {a : StatementNo} {seats′ froms′ tos′ sets′ pool′ stack′ : List ℕ} {answer : Outcome} → step ≡ Frame a → 64 ≤ length seats′
-        → Executes (e .file) (e .symbols) (e .statements) (a .0) (e .text) (e .table) (t .froms) (t .tos) (t .sets) (t .pool) (t .stack) c (e .limits) (mark .tag) (mark .end) froms′ tos′ sets′ pool′ stack′ answer
-        → Proceeds e t (tables seats′ froms′ tos′ sets′ (t .numbers) pool′ stack′ (t .places) (t .locals)) c
+    pub token-frame : {a : StatementNo} {seats′ froms′ tos′ sets′ pool′ stack′ tree′ : List ℕ} {answer : Outcome} → step ≡ Frame a → 64 ≤ length seats′
+        → Executes (e .file) (e .symbols) (e .statements) (a .0) (e .text) (e .table) (t .froms) (t .tos) (t .sets) (t .pool) (t .stack) (t .tree) c (e .limits) (mark .tag) (mark .end) froms′ tos′ sets′ pool′ stack′ tree′ answer
+        → Proceeds e t (tables seats′ froms′ tos′ sets′ (t .numbers) pool′ stack′ (t .places) (t .locals) tree′) c
         (normalStep (database (e .file)) (e .asked) (roomOf (e .limits)) (split token)) answer
     unfolding readied bind ready runReady
     token-frame {a} is seats runs =
         let k = r .checked in
         let z = r .sized in
         record {
-          sized = λ c′ q. sized-on _ _ _ seats (runs .froms-sized) (runs .tos-sized) (runs .sets-sized) (runs .ranged) (runs .grows c′ q);
+          sized = λ c′ q. sized-on _ _ _ _ seats (runs .froms-sized) (runs .tos-sized) (runs .sets-sized) (runs .ranged) (runs .grows c′ q);
           follows = λ m shown.
               ends-by (named m is shown) refl
               (runs .follows (e .asked) (t .numbers) (t .places) (t .locals) m (k .filed) (k .asked) (prep .sensible (e .symbols) (k .filed) (k .asked) .frame a is) (k .under)
@@ -102,7 +102,7 @@ module _ {e : Env} {t : Tables} {c : Counts} (r : Running e t c) where
     -- a $f or $e
     pub token-hypothesis : {h : StatementNo} {at : ℕ} {numbers′ pool′ stack′ : List ℕ} {answer : Outcome} → step ≡ Hypothesis h → at ≡ getD (e .statements) (h .0) 0
         → PushesHypothesis (e .file) (e .symbols) at (t .numbers) (t .pool) (t .stack) c (e .limits) (mark .tag) (mark .end) numbers′ pool′ stack′ answer
-        → Proceeds e t (tables (t .seats) (t .froms) (t .tos) (t .sets) numbers′ pool′ stack′ (t .places) (t .locals)) c
+        → Proceeds e t (tables (t .seats) (t .froms) (t .tos) (t .sets) numbers′ pool′ stack′ (t .places) (t .locals) (t .tree)) c
         (normalStep (database (e .file)) (e .asked) (roomOf (e .limits)) (split token)) answer
     unfolding readied
     token-hypothesis {h} is offset pushes =
@@ -111,10 +111,10 @@ module _ {e : Env} {t : Tables} {c : Counts} (r : Running e t c) where
         let before = may .earlier in
         let asked = k .asked in
         record {
-          sized = λ c′ q. sized-on _ _ _ (r .sized .seats) refl refl refl (r .sized .ranged) (pushes .grows c′ q);
+          sized = λ c′ q. sized-on _ _ _ _ (r .sized .seats) refl refl refl (r .sized .ranged) (pushes .grows c′ q);
           follows = λ m shown.
               ends-by (named m is shown) refl
-              (pushes .follows (e .statements) (e .asked) (e .text) (t .places) (t .locals) (h .0) m (filed-indexed (k .filed)) (k .asked)
+              (pushes .follows (e .statements) (e .asked) (e .text) (t .places) (t .locals) (t .tree) (h .0) m (filed-indexed (k .filed)) (k .asked)
               (rw offset (filed-located (k .filed) (h .0) (omega arith))) may shown);
         }
 
@@ -144,7 +144,7 @@ unfolding markOf
 marked-part text zero end there = absurd (there refl)
 marked-part text (suc n) end there = let h : suc n - 1 ≡ n = omega arith in rw h refl
 
-relabelled : {t : Tables} {n : ℕ} (places locals : List ℕ) → Sized t n → Sized (withLabels t places locals) n
+relabelled : {w : ℕ} {t : Tables} {n : ℕ} (places locals : List ℕ) → Sized w t n → Sized w (withLabels t places locals) n
 relabelled places locals s = record { seats = s .seats; froms = s .froms; tos = s .tos; sets = s .sets; ranged = s .ranged }
 
 -- the label that a span stands for is given

@@ -50,15 +50,16 @@ fn run_token(
     stack: &mut [u64],
     places: &[u64],
     locals: &[u32],
+    tree: &mut [u64],
     from: usize,
     to: usize,
     c: Counts,
     limits: Limits,
 ) -> Outcome
     requires { ⌜ Labelled (now file) (now statements) (now labels) ⌝ }
-    requires { ⌜ Running (env (now file) (now symbols) (now statements) (p .0) (now text) (now table) limits) (tables (now seats) (now froms) (now tos) (now sets) (now numbers) (now pool) (now stack) (now places) (now locals)) c ⌝ }
+    requires { ⌜ Running (env (now file) (now symbols) (now statements) (p .0) (now text) (now table) limits) (tables (now seats) (now froms) (now tos) (now sets) (now numbers) (now pool) (now stack) (now places) (now locals) (now tree)) c ⌝ }
     requires within { ⌜ (from ≤ to) × (to ≤ length (now text)) ⌝ }
-    ensures { λ r. ⌜ Proceeds (env (now (file .entry)) (now (symbols .entry)) (now (statements .entry)) (p .0) (now (text .entry)) (now (table .entry)) limits) (tables (now (seats .entry)) (now (froms .entry)) (now (tos .entry)) (now (sets .entry)) (now (numbers .entry)) (now (pool .entry)) (now (stack .entry)) (now (places .entry)) (now (locals .entry))) (tables (now (seats .exit)) (now (froms .exit)) (now (tos .exit)) (now (sets .exit)) (now (numbers .exit)) (now (pool .exit)) (now (stack .exit)) (now (places .entry)) (now (locals .entry))) c (normalStep (database (now (file .entry))) (p .0) (roomOf limits) (split (range from to (now (text .entry))))) r ⌝ }
+    ensures { λ r. ⌜ Proceeds (env (now (file .entry)) (now (symbols .entry)) (now (statements .entry)) (p .0) (now (text .entry)) (now (table .entry)) limits) (tables (now (seats .entry)) (now (froms .entry)) (now (tos .entry)) (now (sets .entry)) (now (numbers .entry)) (now (pool .entry)) (now (stack .entry)) (now (places .entry)) (now (locals .entry)) (now (tree .entry))) (tables (now (seats .exit)) (now (froms .exit)) (now (tos .exit)) (now (sets .exit)) (now (numbers .exit)) (now (pool .exit)) (now (stack .exit)) (now (places .entry)) (now (locals .entry)) (now (tree .exit))) c (normalStep (database (now (file .entry))) (p .0) (roomOf limits) (split (range from to (now (text .entry))))) r ⌝ }
 {
     let mark = mark_span(text, from, to);
     match prepare_step(
@@ -83,6 +84,7 @@ fn run_token(
             sets,
             pool,
             stack,
+            tree,
             places,
             k,
             c,
@@ -118,6 +120,7 @@ fn run_token(
             sets,
             pool,
             stack,
+            tree,
             c,
             limits,
             mark.tag,
@@ -189,6 +192,7 @@ fn on_normal(
     stack: &mut [u64],
     places: &mut [u64],
     locals: &mut [u32],
+    tree: &mut [u64],
     from: usize,
     to: usize,
     c: Counts,
@@ -196,9 +200,9 @@ fn on_normal(
     steps: usize,
 ) -> Read
     requires { ⌜ Labelled (now file) (now statements) (now labels) ⌝ }
-    requires { ⌜ Running (env (now file) (now symbols) (now statements) (p .0) (now text) (now table) limits) (tables (now seats) (now froms) (now tos) (now sets) (now numbers) (now pool) (now stack) (now places) (now locals)) c ⌝ }
+    requires { ⌜ Running (env (now file) (now symbols) (now statements) (p .0) (now text) (now table) limits) (tables (now seats) (now froms) (now tos) (now sets) (now numbers) (now pool) (now stack) (now places) (now locals) (now tree)) c ⌝ }
     requires within { ⌜ ((from ≤ to) × (to ≤ length (now text))) × (steps ≤ 65536) ⌝ }
-    ensures { λ r. ⌜ ReadsNormal (env (now (file .entry)) (now (symbols .entry)) (now (statements .entry)) (p .0) (now (text .entry)) (now (table .entry)) limits) (tables (now (seats .entry)) (now (froms .entry)) (now (tos .entry)) (now (sets .entry)) (now (numbers .entry)) (now (pool .entry)) (now (stack .entry)) (now (places .entry)) (now (locals .entry))) (tables (now (seats .exit)) (now (froms .exit)) (now (tos .exit)) (now (sets .exit)) (now (numbers .exit)) (now (pool .exit)) (now (stack .exit)) (now (places .exit)) (now (locals .exit))) c from to steps r ⌝ }
+    ensures { λ r. ⌜ ReadsNormal (env (now (file .entry)) (now (symbols .entry)) (now (statements .entry)) (p .0) (now (text .entry)) (now (table .entry)) limits) (tables (now (seats .entry)) (now (froms .entry)) (now (tos .entry)) (now (sets .entry)) (now (numbers .entry)) (now (pool .entry)) (now (stack .entry)) (now (places .entry)) (now (locals .entry)) (now (tree .entry))) (tables (now (seats .exit)) (now (froms .exit)) (now (tos .exit)) (now (sets .exit)) (now (numbers .exit)) (now (pool .exit)) (now (stack .exit)) (now (places .exit)) (now (locals .exit)) (now (tree .exit))) c from to steps r ⌝ }
 {
     if is_token(text, from, to, 63) {
         return Read::Stop {
@@ -224,6 +228,7 @@ fn on_normal(
         stack,
         places,
         locals,
+        tree,
         from,
         to,
         c,
@@ -279,6 +284,7 @@ fn on_first(
     stack: &mut [u64],
     places: &mut [u64],
     locals: &mut [u32],
+    tree: &mut [u64],
     from: usize,
     to: usize,
     c: Counts,
@@ -286,9 +292,9 @@ fn on_first(
     steps: usize,
 ) -> Read
     requires { ⌜ Labelled (now file) (now statements) (now labels) ⌝ }
-    requires { ⌜ Running (env (now file) (now symbols) (now statements) (p .0) (now text) (now table) limits) (tables (now seats) (now froms) (now tos) (now sets) (now numbers) (now pool) (now stack) (now places) (now locals)) c ⌝ }
+    requires { ⌜ Running (env (now file) (now symbols) (now statements) (p .0) (now text) (now table) limits) (tables (now seats) (now froms) (now tos) (now sets) (now numbers) (now pool) (now stack) (now places) (now locals) (now tree)) c ⌝ }
     requires within { ⌜ ((from ≤ to) × (to ≤ length (now text))) × (steps ≤ 65536) ⌝ }
-    ensures { λ r. ⌜ ReadsToken (env (now (file .entry)) (now (symbols .entry)) (now (statements .entry)) (p .0) (now (text .entry)) (now (table .entry)) limits) (tables (now (seats .entry)) (now (froms .entry)) (now (tos .entry)) (now (sets .entry)) (now (numbers .entry)) (now (pool .entry)) (now (stack .entry)) (now (places .entry)) (now (locals .entry))) (tables (now (seats .exit)) (now (froms .exit)) (now (tos .exit)) (now (sets .exit)) (now (numbers .exit)) (now (pool .exit)) (now (stack .exit)) (now (places .exit)) (now (locals .exit))) c Beginning from to steps r ⌝ }
+    ensures { λ r. ⌜ ReadsToken (env (now (file .entry)) (now (symbols .entry)) (now (statements .entry)) (p .0) (now (text .entry)) (now (table .entry)) limits) (tables (now (seats .entry)) (now (froms .entry)) (now (tos .entry)) (now (sets .entry)) (now (numbers .entry)) (now (pool .entry)) (now (stack .entry)) (now (places .entry)) (now (locals .entry)) (now (tree .entry))) (tables (now (seats .exit)) (now (froms .exit)) (now (tos .exit)) (now (sets .exit)) (now (numbers .exit)) (now (pool .exit)) (now (stack .exit)) (now (places .exit)) (now (locals .exit)) (now (tree .exit))) c Beginning from to steps r ⌝ }
 {
     if is_token(text, from, to, 40) {
         let at = fields::statement_offset(statements, p);
@@ -322,6 +328,7 @@ fn on_first(
         stack,
         places,
         locals,
+        tree,
         from,
         to,
         c,
@@ -349,6 +356,7 @@ pub fn on_token(
     stack: &mut [u64],
     places: &mut [u64],
     locals: &mut [u32],
+    tree: &mut [u64],
     from: usize,
     to: usize,
     c: Counts,
@@ -356,9 +364,9 @@ pub fn on_token(
     steps: usize,
 ) -> Read
     requires { ⌜ Labelled (now file) (now statements) (now labels) ⌝ }
-    requires { ⌜ Running (env (now file) (now symbols) (now statements) (p .0) (now text) (now table) limits) (tables (now seats) (now froms) (now tos) (now sets) (now numbers) (now pool) (now stack) (now places) (now locals)) c ⌝ }
+    requires { ⌜ Running (env (now file) (now symbols) (now statements) (p .0) (now text) (now table) limits) (tables (now seats) (now froms) (now tos) (now sets) (now numbers) (now pool) (now stack) (now places) (now locals) (now tree)) c ⌝ }
     requires within { ⌜ (((from ≤ to) × (to ≤ length (now text))) × (steps ≤ 65536)) × Low mode ⌝ }
-    ensures { λ r. ⌜ ReadsToken (env (now (file .entry)) (now (symbols .entry)) (now (statements .entry)) (p .0) (now (text .entry)) (now (table .entry)) limits) (tables (now (seats .entry)) (now (froms .entry)) (now (tos .entry)) (now (sets .entry)) (now (numbers .entry)) (now (pool .entry)) (now (stack .entry)) (now (places .entry)) (now (locals .entry))) (tables (now (seats .exit)) (now (froms .exit)) (now (tos .exit)) (now (sets .exit)) (now (numbers .exit)) (now (pool .exit)) (now (stack .exit)) (now (places .exit)) (now (locals .exit))) c mode from to steps r ⌝ }
+    ensures { λ r. ⌜ ReadsToken (env (now (file .entry)) (now (symbols .entry)) (now (statements .entry)) (p .0) (now (text .entry)) (now (table .entry)) limits) (tables (now (seats .entry)) (now (froms .entry)) (now (tos .entry)) (now (sets .entry)) (now (numbers .entry)) (now (pool .entry)) (now (stack .entry)) (now (places .entry)) (now (locals .entry)) (now (tree .entry))) (tables (now (seats .exit)) (now (froms .exit)) (now (tos .exit)) (now (sets .exit)) (now (numbers .exit)) (now (pool .exit)) (now (stack .exit)) (now (places .exit)) (now (locals .exit)) (now (tree .exit))) c mode from to steps r ⌝ }
 {
     match mode {
         Mode::Beginning => on_first(
@@ -378,6 +386,7 @@ pub fn on_token(
             stack,
             places,
             locals,
+            tree,
             from,
             to,
             c,
@@ -401,6 +410,7 @@ pub fn on_token(
             stack,
             places,
             locals,
+            tree,
             from,
             to,
             c,

@@ -1,5 +1,6 @@
 -- What is told of an answer, and the room that is lent.
 use Prim.Native.Nat.{ℕ, _/_}
+use mathlib.Core.List.{List}
 use mathlib.Core.Path.{_≡_}
 use Rattle.machine.specs.Answer as answers
 use Rattle.machine.specs.Bench.{ended}
@@ -17,7 +18,7 @@ pub record Says (a : answers.Answer) (t : Told) : Type 0 where
 
 -- what is told of a proof's answer: that of every run that it tells
 pub record SaysAs (answer : Answer) (t : Told) : Type 0 where
-  pub says : (s : State) → Tells s answer → Says (ended s) t
+  pub says : (f entries : List ℕ) (s : State) → Tells f entries s answer → Says (ended s) t
 
 -- the room that is lent: bytes of pool, and words of stack and of places, ten to an entry
 unfoldable pub roomLent : (pool stack places : ℕ) → Room

@@ -21,7 +21,12 @@ pub fn tell(answer: Answer) -> Told
     ensures { λ r. ⌜ SaysAs answer r ⌝ }
 {
     match answer {
-        Answer::Accepted { place, steps } => Told {
+        Answer::Accepted {
+            place,
+            steps,
+            word,
+            nodes,
+        } => Told {
             number: 0,
             place: place,
             steps: steps,

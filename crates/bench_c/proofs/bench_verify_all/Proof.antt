@@ -24,7 +24,7 @@ number-requires c κs = search needs
 
 -- src/lib.rt:40:43
 pack-requires : tie.Need-pack-requires
-pack-requires c κs = refusal-small (c .before .before .before .before .before .before .before .before .before .before .before .before .verify-all .ensures) (c .before .before .why .given .1) (c .number .ensures)
+pack-requires c κs = let s = refusal-small (c .before .before .before .before .before .before .before .before .before .before .before .before .verify-all .ensures) (c .before .before .why .given .1) (c .number .ensures) in (omega (arith, s .0), (omega (arith, s .1 .0), omega (arith, s .1 .0)))
 
 -- src/lib.rt:41:26
 enum-known-count : tie.Need-enum-known-count

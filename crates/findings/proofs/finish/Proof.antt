@@ -8,6 +8,10 @@ use Rattle.ends.proofs.end.check_end.Reads as check-end-reads
 use Rattle.findings.proofs.check_mode.Reads as check-mode-reads
 use Rattle.findings.proofs.settled.Reads as settled-reads
 
+-- the word of the lowest row
+word-at-requires : tie.Need-word-at-requires
+word-at-requires c κs = search needs
+
 -- src/lib.rt:77:11
 check-mode-requires : tie.Need-check-mode-requires
 check-mode-requires c κs = search needs
@@ -39,12 +43,13 @@ returns c = rw (c .settled .ensures) (closes-refused (rw (c .before .before .why
 
 -- src/lib.rt:64:1
 returns-2 : tie.Need-returns-2
-returns-2 c = rw (c .settled2 .ensures) (closes-end (rw (c .before .before .enum-told .given .1) at (c .before .before .before .before .check-mode .ensures)) (c .before .check-end .ensures))
+returns-2 c = rw (c .settled2 .ensures) (closes-end (c .before .before .before .before .before .word-at .ensures) (rw (c .before .before .enum-told .given .1) at (c .before .before .before .before .check-mode .ensures)) (c .before .check-end .ensures))
 
 pub finish-spec : {M : Type 1} → statement M
 finish-spec =
     tie.close
     (tie.spec
+    word-at-requires
     check-mode-requires
     enum-known-why
     settled-requires

@@ -8,11 +8,11 @@ use Rattle.run_bytes.proofs.end_token.Tie as tie
 
 -- src/lib.rt:151:9
 on-token-requires : tie.Need-on-token-requires
-on-token-requires c κs = (c .before .before .before .before .before .before .before .before .before .before .before .before .before .before .before .before .before .before .before .before .before .before .before .before .before .pre .0, let q = c .before .before .before .before .before .before .before .before .before .before .before .before .before .before .before .before .before .before .before .before .before .before .before .before .before .pre .1 .1 in (c .before .before .before .before .before .before .before .before .before .before .before .before .before .before .before .before .before .before .before .before .before .before .before .before .before .pre .1 .0, (((omega (arith, q .1 .0 .0), omega (arith, q .1 .0 .1)), q .0 .0 .1), q .0 .0 .0)))
+on-token-requires c κs = (c .before .before .before .before .before .before .before .before .before .before .before .before .before .before .before .before .before .before .before .before .before .before .before .before .before .before .before .pre .0, let q = c .before .before .before .before .before .before .before .before .before .before .before .before .before .before .before .before .before .before .before .before .before .before .before .before .before .before .before .pre .1 .1 in (c .before .before .before .before .before .before .before .before .before .before .before .before .before .before .before .before .before .before .before .before .before .before .before .before .before .before .before .pre .1 .0, (((omega (arith, q .1 .0 .0), omega (arith, q .1 .0 .1)), q .0 .0 .1), q .0 .0 .0)))
 
 -- src/lib.rt:174:5
 after-requires : tie.Need-after-requires
-after-requires c κs = let f = c .before .before .before .before .before .before .before .before .before .before .before .before .before .before .before .before .before .before .before .before .before .before .before .before .before .before .before .before .before .before .before .before .before .before .before .before .before .before .before .before .before .before .before .before .pre .1 .0 .checked .text-few in omega (arith, c .before .before .before .before .before .before .before .before .before .before .before .before .before .before .before .before .before .before .before .before .before .before .before .before .before .before .before .before .before .before .before .before .before .before .before .before .before .before .before .before .before .before .before .before .pre .1 .1 .1 .0 .1)
+after-requires c κs = let f = c .before .before .before .before .before .before .before .before .before .before .before .before .before .before .before .before .before .before .before .before .before .before .before .before .before .before .before .before .before .before .before .before .before .before .before .before .before .before .before .before .before .before .before .before .before .before .before .before .pre .1 .0 .checked .text-few in omega (arith, c .before .before .before .before .before .before .before .before .before .before .before .before .before .before .before .before .before .before .before .before .before .before .before .before .before .before .before .before .before .before .before .before .before .before .before .before .before .before .before .before .before .before .before .before .before .before .before .before .pre .1 .1 .1 .0 .1)
 
 -- src/lib.rt:124:1
 same-length : tie.Need-same-length
@@ -50,9 +50,12 @@ same-length-8 c = search needs
 same-length-9 : tie.Need-same-length-9
 same-length-9 c = search needs
 
+same-length-10 : tie.Need-same-length-10
+same-length-10 c = search needs
+
 -- src/lib.rt:124:1
 returns : tie.Need-returns
-returns c = let q = c .before .before .before .before .before .before .before .before .before .before .before .before .before .before .before .before .before .before .before .before .before .before .before .before .before .before .before .before .before .before .before .before .before .before .before .before .before .before .before .before .before .before .before .before .before .pre .1 .1 in let m = q .0 .1 .0 in let rd = rw (sym m) at (c .before .before .before .before .before .before .before .before .before .before .before .before .before .before .before .before .before .before .before .on-token .ensures) in plain-token (rw (sym m) at (q .0 .1 .1)) (q .1 .1) (q .1 .0 .0) (omega (arith, q .1 .0 .1)) (rd .follows) (rd .keeps) (c .after .ensures)
+returns c = let q = c .before .before .before .before .before .before .before .before .before .before .before .before .before .before .before .before .before .before .before .before .before .before .before .before .before .before .before .before .before .before .before .before .before .before .before .before .before .before .before .before .before .before .before .before .before .before .before .before .before .pre .1 .1 in let m = q .0 .1 .0 in let rd = rw (sym m) at (c .before .before .before .before .before .before .before .before .before .before .before .before .before .before .before .before .before .before .before .before .before .on-token .ensures) in plain-token (rw (sym m) at (q .0 .1 .1)) (q .1 .1) (q .1 .0 .0) (omega (arith, q .1 .0 .1)) (rd .follows) (rd .keeps) (c .after .ensures)
 
 pub end-token-spec : {M : Type 1} → statement M
 end-token-spec =
@@ -69,4 +72,5 @@ end-token-spec =
     same-length-7
     same-length-8
     same-length-9
+    same-length-10
     returns)

@@ -11,7 +11,7 @@ enum-known-mode c = search needs
 
 -- src/lib.rt:265:42
 letter-byte-requires : tie.Need-letter-byte-requires
-letter-byte-requires c κs = let q = c .before .before .before .before .before .before .before .before .before .before .before .before .before .before .before .before .before .before .before .before .before .before .before .before .before .before .before .pre .1 .1 in (c .before .before .before .before .before .before .before .before .before .before .before .before .before .before .before .before .before .before .before .before .before .before .before .before .before .before .before .pre .1 .0, ((low-letters (q .0 .0) (c .before .before .before .before .before .before .before .before .before .before .mode .given .1), q .0 .1), (c .before .before .before .before .before .before .before .before .before .before .mode .given .1, q .1 .1)))
+letter-byte-requires c κs = let q = c .before .before .before .before .before .before .before .before .before .before .before .before .before .before .before .before .before .before .before .before .before .before .before .before .before .before .before .before .before .pre .1 .1 in (c .before .before .before .before .before .before .before .before .before .before .before .before .before .before .before .before .before .before .before .before .before .before .before .before .before .before .before .before .before .pre .1 .0, ((low-letters (q .0 .0) (c .before .before .before .before .before .before .before .before .before .before .before .mode .given .1), q .0 .1), (c .before .before .before .before .before .before .before .before .before .before .before .mode .given .1, q .1 .1)))
 
 -- src/lib.rt:294:13
 enum-told : tie.Need-enum-told
@@ -19,7 +19,7 @@ enum-told c = search needs
 
 -- src/lib.rt:287:28
 plain-byte-requires : tie.Need-plain-byte-requires
-plain-byte-requires c κs = (c .before .before .before .before .before .before .before .before .before .before .before .before .before .before .before .before .before .before .before .before .before .before .before .before .before .before .pre .0, let q = c .before .before .before .before .before .before .before .before .before .before .before .before .before .before .before .before .before .before .before .before .before .before .before .before .before .before .pre .1 .1 in (c .before .before .before .before .before .before .before .before .before .before .before .before .before .before .before .before .before .before .before .before .before .before .before .before .before .before .pre .1 .0, (((rw (c .before .before .before .before .before .before .before .before .before .enum-told .given .1) at (q .0 .0), q .0 .1), (c .before .before .before .before .before .before .before .before .before .enum-told .given .1, beginning)), q .1)))
+plain-byte-requires c κs = (c .before .before .before .before .before .before .before .before .before .before .before .before .before .before .before .before .before .before .before .before .before .before .before .before .before .before .before .before .pre .0, let q = c .before .before .before .before .before .before .before .before .before .before .before .before .before .before .before .before .before .before .before .before .before .before .before .before .before .before .before .before .pre .1 .1 in (c .before .before .before .before .before .before .before .before .before .before .before .before .before .before .before .before .before .before .before .before .before .before .before .before .before .before .before .before .pre .1 .0, (((rw (c .before .before .before .before .before .before .before .before .before .before .enum-told .given .1) at (q .0 .0), q .0 .1), (c .before .before .before .before .before .before .before .before .before .before .enum-told .given .1, beginning)), q .1)))
 
 -- src/lib.rt:315:13
 enum-told-2 : tie.Need-enum-told-2
@@ -27,7 +27,7 @@ enum-told-2 c = search needs
 
 -- src/lib.rt:308:25
 plain-byte-requires-2 : tie.Need-plain-byte-requires-2
-plain-byte-requires-2 c κs = (c .before .before .before .before .before .before .before .before .before .before .before .before .before .before .before .before .before .before .before .before .before .before .before .before .before .before .pre .0, let q = c .before .before .before .before .before .before .before .before .before .before .before .before .before .before .before .before .before .before .before .before .before .before .before .before .before .before .pre .1 .1 in (c .before .before .before .before .before .before .before .before .before .before .before .before .before .before .before .before .before .before .before .before .before .before .before .before .before .before .pre .1 .0, (((rw (c .before .before .before .before .before .before .before .before .before .enum-told2 .given .1) at (q .0 .0), q .0 .1), (c .before .before .before .before .before .before .before .before .before .enum-told2 .given .1, normal)), q .1)))
+plain-byte-requires-2 c κs = (c .before .before .before .before .before .before .before .before .before .before .before .before .before .before .before .before .before .before .before .before .before .before .before .before .before .before .before .before .pre .0, let q = c .before .before .before .before .before .before .before .before .before .before .before .before .before .before .before .before .before .before .before .before .before .before .before .before .before .before .before .before .pre .1 .1 in (c .before .before .before .before .before .before .before .before .before .before .before .before .before .before .before .before .before .before .before .before .before .before .before .before .before .before .before .before .pre .1 .0, (((rw (c .before .before .before .before .before .before .before .before .before .before .enum-told2 .given .1) at (q .0 .0), q .0 .1), (c .before .before .before .before .before .before .before .before .before .before .enum-told2 .given .1, normal)), q .1)))
 
 -- src/lib.rt:336:13
 enum-told-3 : tie.Need-enum-told-3
@@ -35,7 +35,7 @@ enum-told-3 c = search needs
 
 -- src/lib.rt:329:25
 plain-byte-requires-3 : tie.Need-plain-byte-requires-3
-plain-byte-requires-3 c κs = (c .before .before .before .before .before .before .before .before .before .before .before .before .before .before .before .before .before .before .before .before .before .before .before .before .before .before .pre .0, let q = c .before .before .before .before .before .before .before .before .before .before .before .before .before .before .before .before .before .before .before .before .before .before .before .before .before .before .pre .1 .1 in (c .before .before .before .before .before .before .before .before .before .before .before .before .before .before .before .before .before .before .before .before .before .before .before .before .before .before .pre .1 .0, (((rw (c .before .before .before .before .before .before .before .before .before .enum-told3 .given .1) at (q .0 .0), q .0 .1), (c .before .before .before .before .before .before .before .before .before .enum-told3 .given .1, roster)), q .1)))
+plain-byte-requires-3 c κs = (c .before .before .before .before .before .before .before .before .before .before .before .before .before .before .before .before .before .before .before .before .before .before .before .before .before .before .before .before .pre .0, let q = c .before .before .before .before .before .before .before .before .before .before .before .before .before .before .before .before .before .before .before .before .before .before .before .before .before .before .before .before .pre .1 .1 in (c .before .before .before .before .before .before .before .before .before .before .before .before .before .before .before .before .before .before .before .before .before .before .before .before .before .before .before .before .pre .1 .0, (((rw (c .before .before .before .before .before .before .before .before .before .before .enum-told3 .given .1) at (q .0 .0), q .0 .1), (c .before .before .before .before .before .before .before .before .before .before .enum-told3 .given .1, roster)), q .1)))
 
 -- src/lib.rt:239:1
 same-length : tie.Need-same-length
@@ -179,19 +179,31 @@ same-length-32 c = search needs
 
 -- src/lib.rt:239:1
 same-length-33 : tie.Need-same-length-33
-same-length-33 c = search needs
+same-length-33 c = c .before .before .before .before .before .before .before .before .before .before .before .before .before .before .before .tos4 .given
 
 -- src/lib.rt:239:1
 same-length-34 : tie.Need-same-length-34
-same-length-34 c = search needs
+same-length-34 c = c .before .before .before .before .before .before .before .before .before .before .before .before .before .sets4 .given
 
 -- src/lib.rt:239:1
 same-length-35 : tie.Need-same-length-35
-same-length-35 c = search needs
+same-length-35 c = c .before .before .before .before .before .before .before .before .before .before .before .numbers4 .given
 
 -- src/lib.rt:239:1
 same-length-36 : tie.Need-same-length-36
-same-length-36 c = search needs
+same-length-36 c = c .before .before .before .before .before .before .before .before .before .pool4 .given
+
+same-length-37 : tie.Need-same-length-37
+same-length-37 c = search needs
+
+same-length-38 : tie.Need-same-length-38
+same-length-38 c = search needs
+
+same-length-39 : tie.Need-same-length-39
+same-length-39 c = search needs
+
+same-length-40 : tie.Need-same-length-40
+same-length-40 c = search needs
 
 -- src/lib.rt:239:1
 returns-4 : tie.Need-returns-4
@@ -218,8 +230,8 @@ on-byte-spec =
     same-length-7
     same-length-8
     same-length-9
-    returns
     same-length-10
+    returns
     same-length-11
     same-length-12
     same-length-13
@@ -228,9 +240,9 @@ on-byte-spec =
     same-length-16
     same-length-17
     same-length-18
-    returns-2
     same-length-19
     same-length-20
+    returns-2
     same-length-21
     same-length-22
     same-length-23
@@ -238,14 +250,18 @@ on-byte-spec =
     same-length-25
     same-length-26
     same-length-27
-    returns-3
     same-length-28
     same-length-29
     same-length-30
+    returns-3
     same-length-31
     same-length-32
     same-length-33
     same-length-34
     same-length-35
     same-length-36
+    same-length-37
+    same-length-38
+    same-length-39
+    same-length-40
     returns-4)

@@ -16,7 +16,7 @@ divider-requires c κs = search needs
 
 -- src/lib.rt:205:13
 end-token-requires : tie.Need-end-token-requires
-end-token-requires c κs = (c .before .before .before .before .before .before .before .before .before .before .before .before .before .before .before .before .before .before .before .before .before .before .before .before .before .before .before .before .before .pre .0, (c .before .before .before .before .before .before .before .before .before .before .before .before .before .before .before .before .before .before .before .before .before .before .before .before .before .before .before .before .before .pre .1 .0, (c .before .before .before .before .before .before .before .before .before .before .before .before .before .before .before .before .before .before .before .before .before .before .before .before .before .before .before .before .before .pre .1 .1 .0, ((c .before .before .before .before .before .before .before .before .before .if2 .taken, c .before .before .before .before .before .before .before .before .before .before .before .before .before .before .before .before .before .before .before .before .before .before .before .before .before .before .before .before .before .pre .1 .1 .1 .1), (sym (c .before .before .before .before .before .before .before .before .before .before .before .before .divider .ensures) ∙ c .before .before .before .before .before .before .before .before .before .before .before .if1 .taken)))))
+end-token-requires c κs = (c .before .before .before .before .before .before .before .before .before .before .before .before .before .before .before .before .before .before .before .before .before .before .before .before .before .before .before .before .before .before .before .pre .0, (c .before .before .before .before .before .before .before .before .before .before .before .before .before .before .before .before .before .before .before .before .before .before .before .before .before .before .before .before .before .before .before .pre .1 .0, (c .before .before .before .before .before .before .before .before .before .before .before .before .before .before .before .before .before .before .before .before .before .before .before .before .before .before .before .before .before .before .before .pre .1 .1 .0, ((c .before .before .before .before .before .before .before .before .before .before .if2 .taken, c .before .before .before .before .before .before .before .before .before .before .before .before .before .before .before .before .before .before .before .before .before .before .before .before .before .before .before .before .before .before .before .pre .1 .1 .1 .1), (sym (c .before .before .before .before .before .before .before .before .before .before .before .before .before .divider .ensures) ∙ c .before .before .before .before .before .before .before .before .before .before .before .before .if1 .taken)))))
 
 -- src/lib.rt:205:13
 same-length : tie.Need-same-length
@@ -54,21 +54,24 @@ same-length-8 c = search needs
 same-length-9 : tie.Need-same-length-9
 same-length-9 c = search needs
 
+same-length-10 : tie.Need-same-length-10
+same-length-10 c = search needs
+
 -- src/lib.rt:205:13
 returns : tie.Need-returns
 returns c = search needs
 
 -- src/lib.rt:230:20
-add-t44 : tie.Need-add-t44
-add-t44 c = search needs
+add-t47 : tie.Need-add-t47
+add-t47 c = search (needs, c .before .before .before .before .before .before .before .before .before .before .before .before .before .before .before .before .before .before .before .before .before .before .pre .1 .0 .checked .text-few, c .before .before .before .before .before .before .before .before .before .before .before .before .before .before .before .before .before .before .before .before .before .before .pre .1 .1 .1 .1)
 
 -- src/lib.rt:228:9
 returns-2 : tie.Need-returns-2
-returns-2 c = let q = c .before .before .before .before .before .before .before .before .before .before .before .before .before .before .before .before .before .before .before .before .before .pre .1 .1 in let m = q .0 .1 .0 in rw (sym m) (plain-none (rw (sym m) at (q .0 .1 .1)) (rw (sym m) at (q .0 .0 .0)) (c .before .before .before .before .before .before .before .before .before .before .before .before .before .before .before .before .before .before .before .before .before .pre .1 .0 .sized) (q .1 .0) (sym (c .before .before .before .before .divider .ensures) ∙ c .before .before .before .if1 .taken) (omega (arith, c .before .if2 .left, q .1 .0)))
+returns-2 c = let q = c .before .before .before .before .before .before .before .before .before .before .before .before .before .before .before .before .before .before .before .before .before .before .pre .1 .1 in let m = q .0 .1 .0 in rw (sym m) (plain-none (rw (sym m) at (q .0 .1 .1)) (rw (sym m) at (q .0 .0 .0)) (c .before .before .before .before .before .before .before .before .before .before .before .before .before .before .before .before .before .before .before .before .before .before .pre .1 .0 .sized) (q .1 .0) (sym (c .before .before .before .before .divider .ensures) ∙ c .before .before .before .if1 .taken) (omega (arith, c .before .if2 .left, q .1 .0)))
 
 -- src/lib.rt:178:1
 returns-3 : tie.Need-returns-3
-returns-3 c = let q = c .before .before .before .before .before .before .before .before .before .before .before .before .before .before .before .before .before .before .pre .1 .1 in let m = q .0 .1 .0 in plain-more (rw (sym m) at (q .0 .1 .1)) (rw (sym m) at (q .0 .0 .0)) (c .before .before .before .before .before .before .before .before .before .before .before .before .before .before .before .before .before .before .pre .1 .0 .sized) (q .1 .0) (sym (c .before .divider .ensures) ∙ c .if1 .left) (q .1 .1) refl
+returns-3 c = let q = c .before .before .before .before .before .before .before .before .before .before .before .before .before .before .before .before .before .before .before .pre .1 .1 in let m = q .0 .1 .0 in plain-more (rw (sym m) at (q .0 .1 .1)) (rw (sym m) at (q .0 .0 .0)) (c .before .before .before .before .before .before .before .before .before .before .before .before .before .before .before .before .before .before .before .pre .1 .0 .sized) (q .1 .0) (sym (c .before .divider .ensures) ∙ c .if1 .left) (q .1 .1) refl
 
 pub plain-byte-spec : {M : Type 1} → statement M
 plain-byte-spec =
@@ -86,7 +89,8 @@ plain-byte-spec =
     same-length-7
     same-length-8
     same-length-9
+    same-length-10
     returns
-    add-t44
+    add-t47
     returns-2
     returns-3)

@@ -16,7 +16,7 @@ enum-known-d c = search needs
 
 -- src/lib.rt:177:28
 last-letter-requires : tie.Need-last-letter-requires
-last-letter-requires c κs = (c .before .before .before .before .before .before .before .before .before .before .before .before .before .before .before .before .before .before .before .before .before .before .before .before .before .pre .0, (c .before .before .before .before .before .before .before .before .before .before .before .before .before .before .before .before .before .before .before .before .before .before .before .before .before .pre .1 .0, (last-small _ _ (sym (c .before .before .before .before .before .before .before .before .d .given .1) ∙ c .before .before .before .before .before .before .before .before .before .before .letter .ensures), c .before .before .before .before .before .before .before .before .before .before .before .before .before .before .before .before .before .before .before .before .before .before .before .before .before .pre .1 .1)))
+last-letter-requires c κs = (c .before .before .before .before .before .before .before .before .before .before .before .before .before .before .before .before .before .before .before .before .before .before .before .before .before .before .before .pre .0, (c .before .before .before .before .before .before .before .before .before .before .before .before .before .before .before .before .before .before .before .before .before .before .before .before .before .before .before .pre .1 .0, (last-small _ _ (sym (c .before .before .before .before .before .before .before .before .before .d .given .1) ∙ c .before .before .before .before .before .before .before .before .before .before .before .letter .ensures), c .before .before .before .before .before .before .before .before .before .before .before .before .before .before .before .before .before .before .before .before .before .before .before .before .before .before .before .pre .1 .1)))
 
 -- src/lib.rt:199:24
 enum-known-e : tie.Need-enum-known-e
@@ -24,7 +24,7 @@ enum-known-e c = search needs
 
 -- src/lib.rt:199:30
 higher-letter-requires : tie.Need-higher-letter-requires
-higher-letter-requires c κs = (c .before .before .before .before .before .before .before .before .before .before .before .before .before .before .before .before .before .before .pre .1 .0, higher-small _ _ (sym (c .before .e .given .1) ∙ c .before .before .before .letter .ensures))
+higher-letter-requires c κs = (c .before .before .before .before .before .before .before .before .before .before .before .before .before .before .before .before .before .before .before .pre .1 .0, higher-small _ _ (sym (c .before .e .given .1) ∙ c .before .before .before .letter .ensures))
 
 -- src/lib.rt:200:37
 enum-told : tie.Need-enum-told
@@ -32,7 +32,7 @@ enum-told c = search needs
 
 -- src/lib.rt:200:25
 save-letter-requires : tie.Need-save-letter-requires
-save-letter-requires c κs = let r = c .before .before .before .before .before .before .before .before .before .before .before .before .before .before .before .before .before .before .before .pre .0 in ((places-there r, images-there r .0 .1 .1 .0), c .before .before .before .before .before .before .before .before .before .before .before .before .before .before .before .before .before .before .before .pre .1 .0)
+save-letter-requires c κs = let r = c .before .before .before .before .before .before .before .before .before .before .before .before .before .before .before .before .before .before .before .before .pre .0 in ((places-there r, images-there r .0 .1 .1 .0), c .before .before .before .before .before .before .before .before .before .before .before .before .before .before .before .before .before .before .before .before .pre .1 .0)
 
 -- src/lib.rt:201:31
 enum-told-2 : tie.Need-enum-told-2
@@ -76,11 +76,11 @@ same-length-7 c = search needs
 
 -- src/lib.rt:149:1
 returns : tie.Need-returns
-returns c = rw (sym (c .before .before .before .before .before .before .before .before .before .before .before .before .before .before .before .before .before .before .before .before .before .d .given .1) ∙ c .before .before .before .before .before .before .before .before .before .before .before .before .before .before .before .before .before .before .before .before .before .before .before .letter .ensures) at (c .before .before .before .before .before .before .before .before .before .before .before .before .last-letter .ensures (c .before .before .before .before .before .before .before .before .before .before .before .before .before .before .before .before .before .before .before .before .before .before .before .before .before .before .before .before .before .before .before .before .before .before .before .before .before .before .args .saves))
+returns c = rw (sym (c .before .before .before .before .before .before .before .before .before .before .before .before .before .before .before .before .before .before .before .before .before .before .before .before .d .given .1) ∙ c .before .before .before .before .before .before .before .before .before .before .before .before .before .before .before .before .before .before .before .before .before .before .before .before .before .before .letter .ensures) at (c .before .before .before .before .before .before .before .before .before .before .before .before .before .before .last-letter .ensures (c .before .before .before .before .before .before .before .before .before .before .before .before .before .before .before .before .before .before .before .before .before .before .before .before .before .before .before .before .before .before .before .before .before .before .before .before .before .before .before .before .before .before .args .saves))
 
 -- src/lib.rt:149:1
 returns-2 : tie.Need-returns-2
-returns-2 c = rw (sym (c .before .before .before .before .letter .ensures) ∙ c .before .before .e .given .1) (c .higher-letter .ensures .reads _ _ (c .before .before .before .before .before .before .before .before .before .before .before .before .before .before .before .before .before .before .before .args .saves) (c .before .before .before .before .before .before .before .before .before .before .before .before .before .before .before .before .before .before .before .pre .0 .sized))
+returns-2 c = rw (sym (c .before .before .before .before .letter .ensures) ∙ c .before .before .e .given .1) (c .higher-letter .ensures .reads _ _ (c .before .before .before .before .before .before .before .before .before .before .before .before .before .before .before .before .before .before .before .before .args .saves) (c .before .before .before .before .before .before .before .before .before .before .before .before .before .before .before .before .before .before .before .before .pre .0 .sized))
 
 -- src/lib.rt:149:1
 same-length-8 : tie.Need-same-length-8
@@ -90,17 +90,20 @@ same-length-8 c = search needs
 same-length-9 : tie.Need-same-length-9
 same-length-9 c = search needs
 
+same-length-10 : tie.Need-same-length-10
+same-length-10 c = search needs
+
 -- src/lib.rt:149:1
 returns-3 : tie.Need-returns-3
-returns-3 c = rw (sym (c .before .before .before .before .before .enum-told .given .1) ∙ c .before .before .before .before .before .before .before .letter .ensures) at (c .before .before .save-letter .ensures .reads _ _ refl refl refl (c .before .before .before .before .before .before .before .before .before .before .before .before .before .before .before .before .before .before .before .before .before .before .pre .0))
+returns-3 c = rw (sym (c .before .before .before .before .before .enum-told .given .1) ∙ c .before .before .before .before .before .before .before .letter .ensures) at (c .before .before .save-letter .ensures .reads _ _ refl refl refl (c .before .before .before .before .before .before .before .before .before .before .before .before .before .before .before .before .before .before .before .before .before .before .before .pre .0))
 
 -- src/lib.rt:149:1
 returns-4 : tie.Need-returns-4
-returns-4 c = rw (sym (c .before .before .before .letter .ensures) ∙ c .before .enum-told2 .given .1) (c .incomplete-letter .ensures .reads _ _ (c .before .before .before .before .before .before .before .before .before .before .before .before .before .before .before .before .before .before .args .c) (c .before .before .before .before .before .before .before .before .before .before .before .before .before .before .before .before .before .before .args .saves))
+returns-4 c = rw (sym (c .before .before .before .letter .ensures) ∙ c .before .enum-told2 .given .1) (c .incomplete-letter .ensures .reads _ _ (c .before .before .before .before .before .before .before .before .before .before .before .before .before .before .before .before .before .before .before .args .c) (c .before .before .before .before .before .before .before .before .before .before .before .before .before .before .before .before .before .before .before .args .saves))
 
 -- src/lib.rt:149:1
 returns-5 : tie.Need-returns-5
-returns-5 c = rw (sym (c .before .before .letter .ensures) ∙ c .enum-told3 .given .1) (ignored (c .before .before .before .before .before .before .before .before .before .before .before .before .before .before .before .before .before .pre .1 .0) .reads _ _ (c .before .before .before .before .before .before .before .before .before .before .before .before .before .before .before .before .before .pre .0 .sized))
+returns-5 c = rw (sym (c .before .before .letter .ensures) ∙ c .enum-told3 .given .1) (ignored (c .before .before .before .before .before .before .before .before .before .before .before .before .before .before .before .before .before .before .pre .1 .0) .reads _ _ (c .before .before .before .before .before .before .before .before .before .before .before .before .before .before .before .before .before .before .pre .0 .sized))
 
 pub on-letter-spec : {M : Type 1} → statement M
 on-letter-spec =
@@ -123,10 +126,11 @@ on-letter-spec =
     same-length-5
     same-length-6
     same-length-7
+    same-length-8
     returns
     returns-2
-    same-length-8
     same-length-9
+    same-length-10
     returns-3
     returns-4
     returns-5)

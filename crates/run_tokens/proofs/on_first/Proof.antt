@@ -12,7 +12,7 @@ statement-offset-requires : tie.Need-statement-offset-requires
 statement-offset-requires c κs = search needs
 
 preload-requires : tie.Need-preload-requires
-preload-requires c κs = roster-there (c .before .before .before .before .before .before .before .before .before .before .before .before .before .before .before .before .before .before .before .before .before .pre .1 .0)
+preload-requires c κs = roster-there (c .before .before .before .before .before .before .before .before .before .before .before .before .before .before .before .before .before .before .before .before .before .before .pre .1 .0)
 
 in-roster-requires : tie.Need-in-roster-requires
 in-roster-requires c κs = search needs
@@ -27,10 +27,10 @@ same-length-3 : tie.Need-same-length-3
 same-length-3 c = search needs
 
 returns : tie.Need-returns
-returns c = first-opens (c .before .before .before .before .before .before .before .before .before .before .before .before .before .before .before .before .before .before .before .before .before .before .before .before .before .before .before .before .before .pre .1 .0) (sym (c .before .before .before .before .before .before .before .before .before .before .before .before .before .is-token .ensures) ∙ c .before .before .before .before .before .before .before .before .before .before .before .before .if1 .taken) (c .before .before .before .before .before .before .before .before .before .before .before .statement-offset .ensures) (c .before .before .before .before .before .before .before .preload .ensures) (c .in-roster .ensures)
+returns c = first-opens (c .before .before .before .before .before .before .before .before .before .before .before .before .before .before .before .before .before .before .before .before .before .before .before .before .before .before .before .before .before .before .pre .1 .0) (sym (c .before .before .before .before .before .before .before .before .before .before .before .before .before .is-token .ensures) ∙ c .before .before .before .before .before .before .before .before .before .before .before .before .if1 .taken) (c .before .before .before .before .before .before .before .before .before .before .before .statement-offset .ensures) (c .before .before .before .before .before .before .before .preload .ensures) (c .in-roster .ensures)
 
 on-normal-requires : tie.Need-on-normal-requires
-on-normal-requires c κs = (c .before .before .before .before .before .before .before .before .before .before .before .before .before .before .before .before .before .before .before .before .before .before .before .before .before .before .pre .0, c .before .before .before .before .before .before .before .before .before .before .before .before .before .before .before .before .before .before .before .before .before .before .before .before .before .before .pre .1)
+on-normal-requires c κs = (c .before .before .before .before .before .before .before .before .before .before .before .before .before .before .before .before .before .before .before .before .before .before .before .before .before .before .before .before .pre .0, c .before .before .before .before .before .before .before .before .before .before .before .before .before .before .before .before .before .before .before .before .before .before .before .before .before .before .before .before .pre .1)
 
 same-length-4 : tie.Need-same-length-4
 same-length-4 c = search needs
@@ -59,8 +59,11 @@ same-length-11 c = search needs
 same-length-12 : tie.Need-same-length-12
 same-length-12 c = search needs
 
+same-length-13 : tie.Need-same-length-13
+same-length-13 c = search needs
+
 returns-2 : tie.Need-returns-2
-returns-2 c = first-normal (c .before .before .before .before .before .before .before .before .before .before .before .before .before .before .before .before .before .before .before .before .before .before .before .before .before .before .before .before .before .before .before .before .before .before .before .before .before .before .before .before .before .before .before .before .before .pre .1 .0) (sym (c .before .before .before .before .before .before .before .before .before .before .before .before .before .before .before .before .before .before .before .before .before .before .before .before .before .before .before .before .before .is-token .ensures) ∙ c .before .before .before .before .before .before .before .before .before .before .before .before .before .before .before .before .before .before .before .before .before .before .before .before .before .before .before .before .if1 .left) (c .before .before .before .before .before .before .before .before .before .before .before .before .before .before .before .before .before .before .on-normal .ensures)
+returns-2 c = first-normal (c .before .before .before .before .before .before .before .before .before .before .before .before .before .before .before .before .before .before .before .before .before .before .before .before .before .before .before .before .before .before .before .before .before .before .before .before .before .before .before .before .before .before .before .before .before .before .before .before .before .pre .1 .0) (sym (c .before .before .before .before .before .before .before .before .before .before .before .before .before .before .before .before .before .before .before .before .before .before .before .before .before .before .before .before .before .before .before .before .is-token .ensures) ∙ c .before .before .before .before .before .before .before .before .before .before .before .before .before .before .before .before .before .before .before .before .before .before .before .before .before .before .before .before .before .before .before .if1 .left) (c .before .before .before .before .before .before .before .before .before .before .before .before .before .before .before .before .before .before .before .before .on-normal .ensures)
 
 pub on-first-spec : {M : Type 1} → statement M
 on-first-spec =
@@ -84,4 +87,5 @@ on-first-spec =
     same-length-10
     same-length-11
     same-length-12
+    same-length-13
     returns-2)

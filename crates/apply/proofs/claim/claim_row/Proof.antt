@@ -23,6 +23,7 @@ returns c =
       to-is = refl;
       tag-is = refl;
       end-is = refl;
+      word-is = refl;
       vars = c .do-substitute-vars .ensures .1;
       sized = search needs;
     }

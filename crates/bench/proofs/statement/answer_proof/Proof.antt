@@ -1,100 +1,113 @@
--- `statement::answer_proof` meets its contract: our tables are cleared, the proof is run, its answer is told.
-use Rattle.bench.proofs.Preparing.{blank, proof-says}
-use mathlib.Core.Path.{_∙_}
+-- `statement::answer_proof` meets its contract: the tables are cut to as many entries as the file has symbols.
+use Prim.Native.Nat.{_*_}
+use mathlib.Core.Path.{sym}
+use native.Mathlib.Omega.{arith}
+use lib.ListN.{length}
+use lib.Seq.{length-take-le}
 use borrow.Author.Needs.{needs}
+use Rattle.bench.proofs.Preparing.{cut, width-few}
 use Rattle.bench.proofs.statement.answer_proof.Statement.{statement}
 use Rattle.bench.proofs.statement.answer_proof.Tie as tie
-use Rattle.bench.proofs.statement.answer_proof.Reads as reads
-use Rattle.bench.proofs.statement.answer_proof.Lts as lts
-use Rattle.told.proofs.limits_of.Reads as limits-of-reads
-use Rattle.told.proofs.tell.Reads as tell-reads
-use Rattle.clearing.proofs.clear_words32.Reads as clear-words32-reads
-use Rattle.clearing.proofs.clear_words64.Reads as clear-words64-reads
-use Rattle.proof.proofs.verify_proof.Reads as verify-proof-reads
+use Rattle.bench.proofs.statement.run_proof.Reads as run-proof-reads
 
--- src/statement.rt:94:5
-clear-words64-requires : tie.Need-clear-words64-requires
-clear-words64-requires c κs = search needs
+-- src/statement.rt:119:9
+slice-relend-prefix-run-proof : tie.Need-slice-relend-prefix-run-proof
+slice-relend-prefix-run-proof c = let p = c .before .before .before .before .before .before .before .before .before .before .before .before .before .before .before .before .before .pre in omega (arith, width-few (p .1 .0), p .1 .1 .1 .froms-size)
 
--- src/statement.rt:95:5
-clear-words32-requires : tie.Need-clear-words32-requires
-clear-words32-requires c κs = search needs
+-- src/statement.rt:119:9
+slice-aggregate-run-proof : tie.Need-slice-aggregate-run-proof
+slice-aggregate-run-proof c = let p = c .before .before .before .before .before .before .before .before .before .before .before .before .before .before .before .before .before .before .pre in let a = c .before .before .before .before .before .before .before .before .before .before .before .before .before .before .before .before .before .before .args in sym (length-take-le (length (a .symbols .now)) (a .froms .now) (omega (arith, width-few (p .1 .0), p .1 .1 .1 .froms-size)))
 
--- src/statement.rt:96:5
-clear-words32-requires-2 : tie.Need-clear-words32-requires-2
-clear-words32-requires-2 c κs = search needs
+-- src/statement.rt:120:9
+slice-relend-prefix-run-proof-2 : tie.Need-slice-relend-prefix-run-proof-2
+slice-relend-prefix-run-proof-2 c = let p = c .before .before .before .before .before .before .before .before .before .before .before .before .before .before .before .before .before .before .pre in omega (arith, width-few (p .1 .0), p .1 .1 .1 .tos-size)
 
--- src/statement.rt:97:5
-clear-words32-requires-3 : tie.Need-clear-words32-requires-3
-clear-words32-requires-3 c κs = search needs
+-- src/statement.rt:120:9
+slice-aggregate-run-proof-2 : tie.Need-slice-aggregate-run-proof-2
+slice-aggregate-run-proof-2 c = let p = c .before .before .before .before .before .before .before .before .before .before .before .before .before .before .before .before .before .before .before .pre in let a = c .before .before .before .before .before .before .before .before .before .before .before .before .before .before .before .before .before .before .before .args in sym (length-take-le (length (a .symbols .now)) (a .tos .now) (omega (arith, width-few (p .1 .0), p .1 .1 .1 .tos-size)))
 
--- src/statement.rt:98:9
-limits-of-requires : tie.Need-limits-of-requires
-limits-of-requires c κs = search needs
+-- src/statement.rt:121:21
+mul-run-proof : tie.Need-mul-run-proof
+mul-run-proof c = search needs
 
--- src/statement.rt:99:10
-verify-proof-requires : tie.Need-verify-proof-requires
-verify-proof-requires c κs = (c .before .before .before .before .before .before .before .before .before .before .before .before .before .before .before .before .before .before .before .before .before .before .before .before .before .before .before .before .before .before .before .before .before .before .before .before .before .before .before .before .before .before .pre .0, blank _ _ _ _ _ _ _ _ _ _ _ _ _ _ _ (c .before .before .before .before .before .before .before .before .before .before .before .before .before .before .before .before .before .before .before .before .before .before .before .before .before .before .before .before .before .before .before .before .before .before .before .before .before .before .before .before .before .before .pre .1 .0) (c .before .before .before .before .before .before .before .before .before .before .before .before .before .before .before .before .before .before .before .before .before .before .before .before .before .before .before .before .before .before .before .before .before .before .before .before .before .before .before .before .before .before .pre .1 .1 .0) (c .before .before .before .before .before .before .before .before .before .before .before .before .before .before .before .before .before .before .before .before .before .before .before .before .before .before .before .before .before .before .before .before .before .before .before .before .before .before .before .before .before .before .pre .1 .1 .1) (c .before .before .before .before .before .before .before .before .before .before .before .before .before .before .before .before .before .before .before .before .before .before .before .before .before .clear-words64 .ensures) (c .before .before .before .before .before .before .before .before .before .before .before .before .before .before .before .before .before .before .before .before .before .clear-words32 .ensures) (c .before .before .before .before .before .before .before .before .before .before .before .before .before .before .before .before .before .clear-words322 .ensures) (c .before .before .before .before .before .before .before .before .before .before .before .before .before .clear-words323 .ensures) (c .before .before .before .before .before .before .before .before .before .before .limits-of .ensures))
+-- src/statement.rt:121:9
+slice-relend-prefix-run-proof-3 : tie.Need-slice-relend-prefix-run-proof-3
+slice-relend-prefix-run-proof-3 c = let p = c .before .before .before .before .before .before .before .before .before .before .before .before .before .before .before .before .before .before .before .pre in omega (arith, width-few (p .1 .0), p .1 .1 .1 .sets-size)
 
--- src/statement.rt:99:5
-tell-requires : tie.Need-tell-requires
-tell-requires c κs = search needs
+-- src/statement.rt:121:9
+slice-aggregate-run-proof-3 : tie.Need-slice-aggregate-run-proof-3
+slice-aggregate-run-proof-3 c = let p = c .before .before .before .before .before .before .before .before .before .before .before .before .before .before .before .before .before .before .before .before .pre in let a = c .before .before .before .before .before .before .before .before .before .before .before .before .before .before .before .before .before .before .before .before .args in sym (length-take-le (4 * length (a .symbols .now)) (a .sets .now) (omega (arith, width-few (p .1 .0), p .1 .1 .1 .sets-size)))
 
--- src/statement.rt:72:1
+-- src/statement.rt:122:9
+slice-relend-prefix-run-proof-4 : tie.Need-slice-relend-prefix-run-proof-4
+slice-relend-prefix-run-proof-4 c = let p = c .before .before .before .before .before .before .before .before .before .before .before .before .before .before .before .before .before .before .before .before .pre in omega (arith, width-few (p .1 .0), p .1 .1 .1 .numbers-size)
+
+-- src/statement.rt:122:9
+slice-aggregate-run-proof-4 : tie.Need-slice-aggregate-run-proof-4
+slice-aggregate-run-proof-4 c = let p = c .before .before .before .before .before .before .before .before .before .before .before .before .before .before .before .before .before .before .before .before .before .pre in let a = c .before .before .before .before .before .before .before .before .before .before .before .before .before .before .before .before .before .before .before .before .before .args in sym (length-take-le (length (a .symbols .now)) (a .numbers .now) (omega (arith, width-few (p .1 .0), p .1 .1 .1 .numbers-size)))
+
+-- src/statement.rt:110:5
+run-proof-requires : tie.Need-run-proof-requires
+run-proof-requires c κs = let p = c .before .before .before .before .before .before .before .before .before .before .before .before .before .before .before .before .before .before .before .before .before .before .before .before .before .pre in let a = c .before .before .before .before .before .before .before .before .before .before .before .before .before .before .before .before .before .before .before .before .before .before .before .before .before .args in (p .0, (p .1 .0, (p .1 .1 .0, cut (a .symbols .now) (p .1 .1 .1) (length-take-le (length (a .symbols .now)) (a .froms .now) (omega (arith, width-few (p .1 .0), p .1 .1 .1 .froms-size))) (length-take-le (length (a .symbols .now)) (a .tos .now) (omega (arith, width-few (p .1 .0), p .1 .1 .1 .tos-size))) (length-take-le (4 * length (a .symbols .now)) (a .sets .now) (omega (arith, width-few (p .1 .0), p .1 .1 .1 .sets-size))) (length-take-le (length (a .symbols .now)) (a .numbers .now) (omega (arith, width-few (p .1 .0), p .1 .1 .1 .numbers-size))))))
+
+-- src/statement.rt:85:1
 same-length : tie.Need-same-length
-same-length c = c .before .before .before .before .before .before .before .before .before .before .before .before .before .before .before .before .before .before .before .before .table2 .given ∙ c .before .before .before .before .before .before .before .before .before .before .before .before .before .before .before .before .before .before .before .before .before .before .before .before .before .before .before .before .before .before .before .before .before .before .before .before .before .before .before .before .before .before .before .before .before .before .table .given
+same-length c = search needs
 
--- src/statement.rt:72:1
+-- src/statement.rt:85:1
 same-length-2 : tie.Need-same-length-2
 same-length-2 c = search needs
 
--- src/statement.rt:72:1
+-- src/statement.rt:85:1
 same-length-3 : tie.Need-same-length-3
-same-length-3 c = c .before .before .before .before .before .before .before .before .before .before .before .before .before .before .before .before .froms2 .given ∙ c .before .before .before .before .before .before .before .before .before .before .before .before .before .before .before .before .before .before .before .before .before .before .before .before .before .before .before .before .before .before .before .before .before .before .before .before .before .before .before .before .before .before .froms .given
+same-length-3 c = search needs
 
--- src/statement.rt:72:1
+-- src/statement.rt:85:1
 same-length-4 : tie.Need-same-length-4
-same-length-4 c = c .before .before .before .before .before .before .before .before .before .before .before .before .before .before .tos2 .given ∙ c .before .before .before .before .before .before .before .before .before .before .before .before .before .before .before .before .before .before .before .before .before .before .before .before .before .before .before .before .before .before .before .before .before .before .before .before .before .before .tos .given
+same-length-4 c = search needs
 
--- src/statement.rt:72:1
+-- src/statement.rt:85:1
 same-length-5 : tie.Need-same-length-5
 same-length-5 c = search needs
 
--- src/statement.rt:72:1
+-- src/statement.rt:85:1
 same-length-6 : tie.Need-same-length-6
-same-length-6 c = c .before .before .before .before .before .before .before .before .before .before .numbers2 .given ∙ c .before .before .before .before .before .before .before .before .before .before .before .before .before .before .before .before .before .before .before .before .before .before .before .before .before .before .before .before .before .before .before .before .before .before .numbers .given
+same-length-6 c = search needs
 
--- src/statement.rt:72:1
+-- src/statement.rt:85:1
 same-length-7 : tie.Need-same-length-7
 same-length-7 c = search needs
 
--- src/statement.rt:72:1
+-- src/statement.rt:85:1
 same-length-8 : tie.Need-same-length-8
 same-length-8 c = search needs
 
--- src/statement.rt:72:1
+-- src/statement.rt:85:1
 same-length-9 : tie.Need-same-length-9
 same-length-9 c = search needs
 
--- src/statement.rt:72:1
+-- src/statement.rt:85:1
 same-length-10 : tie.Need-same-length-10
 same-length-10 c = search needs
 
--- src/statement.rt:72:1
+-- src/statement.rt:85:1
 returns : tie.Need-returns
-returns c = proof-says _ _ _ (c .before .before .before .before .before .before .before .before .before .before .before .before .before .before .before .before .before .before .before .before .before .before .before .before .before .before .before .before .before .before .before .before .limits-of .ensures) (c .before .before .before .before .before .before .before .before .before .before .before .before .before .before .before .before .before .before .before .before .before .verify-proof .ensures) (c .tell .ensures)
+returns c = search needs
 
 pub answer-proof-spec : {M : Type 1} → statement M
 answer-proof-spec =
     tie.close
     (tie.spec
-    clear-words64-requires
-    clear-words32-requires
-    clear-words32-requires-2
-    clear-words32-requires-3
-    limits-of-requires
-    verify-proof-requires
-    tell-requires
+    slice-relend-prefix-run-proof
+    slice-aggregate-run-proof
+    slice-relend-prefix-run-proof-2
+    slice-aggregate-run-proof-2
+    mul-run-proof
+    slice-relend-prefix-run-proof-3
+    slice-aggregate-run-proof-3
+    slice-relend-prefix-run-proof-4
+    slice-aggregate-run-proof-4
+    run-proof-requires
     same-length
     same-length-2
     same-length-3

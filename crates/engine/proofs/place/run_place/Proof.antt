@@ -7,7 +7,7 @@ use Rattle.engine.proofs.place.run_place.Tie as tie
 
 -- src/place.rt:61:9
 returns : tie.Need-returns
-returns c = runs-out (c .before .before .before .before .before .before .before .before .before .before .before .before .before .before .pre .1 .0 .0 .0) (c .if1 .taken)
+returns c = runs-out (c .before .before .before .before .before .before .before .before .before .before .before .before .before .before .before .pre .1 .0 .0 .0 .0) (c .if1 .taken)
 
 -- src/place.rt:63:9
 row-at-requires : tie.Need-row-at-requires
@@ -19,7 +19,7 @@ marked-requires c κs = search needs
 
 -- src/place.rt:65:9
 push-requires : tie.Need-push-requires
-push-requires c κs = (c .before .before .before .before .before .before .before .before .before .before .before .before .before .before .before .before .before .before .before .pre .0 .1)
+push-requires c κs = (c .before .before .before .before .before .before .before .before .before .before .before .before .before .before .before .before .before .before .before .before .pre .0 .1)
 
 -- src/place.rt:65:9
 same-length : tie.Need-same-length
@@ -27,11 +27,11 @@ same-length c = search needs
 
 -- src/place.rt:65:9
 returns-2 : tie.Need-returns-2
-returns-2 c = runs-recalled (omega (arith, c .before .before .before .before .before .before .before .before .if1 .left)) (c .before .before .before .before .before .before .before .row-at .ensures) (c .before .before .before .before .before .if2 .taken) (c .before .before .before .before .before .before .before .before .before .before .before .before .before .before .before .before .before .before .before .before .before .before .pre .1 .0 .0 .0) (rw (c .before .before .before .marked .ensures) at (c .before .before .push .ensures))
+returns-2 c = runs-recalled (omega (arith, c .before .before .before .before .before .before .before .before .if1 .left)) (c .before .before .before .before .before .before .before .row-at .ensures) (c .before .before .before .before .before .if2 .taken) (c .before .before .before .before .before .before .before .before .before .before .before .before .before .before .before .before .before .before .before .before .before .before .before .pre .1 .0 .0 .0 .0) (rw (c .before .before .before .marked .ensures) at (c .before .before .push .ensures))
 
 -- src/place.rt:67:5
 execute-step-requires : tie.Need-execute-step-requires
-execute-step-requires c κs = (c .before .before .before .before .before .before .before .before .before .before .before .before .before .before .before .before .before .before .before .before .before .before .before .pre .0, c .before .before .before .before .before .before .before .before .before .before .before .before .before .before .before .before .before .before .before .before .before .before .before .pre .1 .0)
+execute-step-requires c κs = (c .before .before .before .before .before .before .before .before .before .before .before .before .before .before .before .before .before .before .before .before .before .before .before .before .before .pre .0, (c .before .before .before .before .before .before .before .before .before .before .before .before .before .before .before .before .before .before .before .before .before .before .before .before .before .pre .1 .0 .0, c .before .before .before .before .before .before .before .before .before .before .before .before .before .before .before .before .before .before .before .before .before .before .before .before .before .pre .1 .1))
 
 -- src/place.rt:36:1
 same-length-2 : tie.Need-same-length-2
@@ -57,9 +57,12 @@ same-length-6 c = search needs
 same-length-7 : tie.Need-same-length-7
 same-length-7 c = search needs
 
+same-length-8 : tie.Need-same-length-8
+same-length-8 c = search needs
+
 -- src/place.rt:36:1
 returns-3 : tie.Need-returns-3
-returns-3 c = runs-applied (omega (arith, c .before .before .before .before .before .before .before .before .before .before .before .before .before .before .before .before .before .before .before .before .before .before .if1 .left)) (c .before .before .before .before .before .before .before .before .before .before .before .before .before .before .before .before .before .before .before .before .before .row-at .ensures) (c .before .before .before .before .before .before .before .before .before .before .before .before .before .before .before .before .before .before .before .if2 .left) (c .before .before .before .before .before .before .before .before .before .before .before .before .execute-step .ensures)
+returns-3 c = runs-applied (omega (arith, c .before .before .before .before .before .before .before .before .before .before .before .before .before .before .before .before .before .before .before .before .before .before .before .before .before .if1 .left)) (c .before .before .before .before .before .before .before .before .before .before .before .before .before .before .before .before .before .before .before .before .before .before .before .before .row-at .ensures) (c .before .before .before .before .before .before .before .before .before .before .before .before .before .before .before .before .before .before .before .before .before .before .if2 .left) (c .before .before .before .before .before .before .before .before .before .before .before .before .before .before .execute-step .ensures)
 
 pub run-place-spec : {M : Type 1} → statement M
 run-place-spec =
@@ -78,4 +81,5 @@ run-place-spec =
     same-length-5
     same-length-6
     same-length-7
+    same-length-8
     returns-3)

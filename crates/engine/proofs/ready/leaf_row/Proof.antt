@@ -13,6 +13,10 @@ typecode-requires c κs = search needs
 raw-set-requires : tie.Need-raw-set-requires
 raw-set-requires c κs = search needs
 
+-- the word of the derivation
+mul-t12 : tie.Need-mul-t12
+mul-t12 c = search needs
+
 -- src/ready.rt:18:1
 returns : tie.Need-returns
 unfolding typecode
@@ -23,9 +27,10 @@ returns c =
       to-is = refl;
       tag-is = refl;
       end-is = refl;
+      word-is = search needs;
       vars = c .raw-set .ensures;
       sized = search needs;
     }
 
 pub leaf-row-spec : {M : Type 1} → statement M
-leaf-row-spec = tie.close (tie.spec typecode-requires raw-set-requires returns)
+leaf-row-spec = tie.close (tie.spec typecode-requires raw-set-requires mul-t12 returns)

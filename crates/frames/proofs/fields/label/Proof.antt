@@ -4,12 +4,12 @@ use borrow.Author.Needs.{needs}
 use Rattle.frames.proofs.fields.label.Statement.{statement}
 use Rattle.frames.proofs.fields.label.Tie as tie
 
-rest-at-requires : tie.Need-rest-at-requires
-rest-at-requires c κs = search needs
+any-rest-at-requires : tie.Need-any-rest-at-requires
+any-rest-at-requires c κs = search needs
 
 returns : tie.Need-returns
 unfolding statementAt
-returns c = c .rest-at .ensures
+returns c = c .any-rest-at .ensures
 
 pub label-spec : {M : Type 1} → statement M
-label-spec = tie.close (tie.spec rest-at-requires returns)
+label-spec = tie.close (tie.spec any-rest-at-requires returns)

@@ -10,7 +10,7 @@ use Rattle.frames.proofs.fields.proof_text.Reads as reads
 use Rattle.frames.proofs.fields.proof_text.Lts as lts
 use Rattle.frames.proofs.record.kind_at.Reads as kind-at-reads
 use Rattle.frames.proofs.record.next_at.Reads as next-at-reads
-use Rattle.frames.proofs.record.rest_at.Reads as rest-at-reads
+use Rattle.frames.proofs.record.any_rest_at.Reads as any-rest-at-reads
 
 kind-at-requires : tie.Need-kind-at-requires
 kind-at-requires c κs = search needs
@@ -18,15 +18,15 @@ kind-at-requires c κs = search needs
 next-at-requires : tie.Need-next-at-requires
 next-at-requires c κs = search needs
 
-cast-rest-at : tie.Need-cast-rest-at
-cast-rest-at c = search needs
+cast-any-rest-at : tie.Need-cast-any-rest-at
+cast-any-rest-at c = search needs
 
-rest-at-requires : tie.Need-rest-at-requires
-rest-at-requires c κs = search needs
+any-rest-at-requires : tie.Need-any-rest-at-requires
+any-rest-at-requires c κs = search needs
 
 returns : tie.Need-returns
 unfolding statementAt
-returns c = pick-first _ (equal-yes (cc)) (c .rest-at .ensures ∙ ap (restAt (c .before .before .before .before .before .args .file .now)) (c .before .next-at .ensures .0))
+returns c = pick-first _ (equal-yes (cc)) (c .any-rest-at .ensures ∙ ap (restAt (c .before .before .before .before .before .args .file .now)) (c .before .next-at .ensures .0))
 
 slice-aggregate-result : tie.Need-slice-aggregate-result
 slice-aggregate-result c = search needs
@@ -41,8 +41,8 @@ proof-text-spec =
     (tie.spec
     kind-at-requires
     next-at-requires
-    cast-rest-at
-    rest-at-requires
+    cast-any-rest-at
+    any-rest-at-requires
     returns
     slice-aggregate-result
     returns-2)

@@ -1,15 +1,37 @@
--- `frames::fields::typecode` meets its contract: the reader below it has the field of the decoded record.
+-- `frames::fields::typecode` meets its contract: that of a $f lies at a fixed offset, any other is read by the reader below it.
+use mathlib.Core.Path.{sym, _∙_}
 use Rattle.frames.specs.Database.{statementAt}
+use Rattle.frames.proofs.Listing.{float-first}
 use borrow.Author.Needs.{needs}
 use Rattle.frames.proofs.fields.typecode.Statement.{statement}
 use Rattle.frames.proofs.fields.typecode.Tie as tie
+use Rattle.frames.proofs.fields.typecode.Reads as reads
+use Rattle.frames.proofs.fields.typecode.Lts as lts
+use Rattle.frames.proofs.read.u16_at.Reads as u16-at-reads
+use Rattle.frames.proofs.record.kind_at.Reads as kind-at-reads
+use Rattle.frames.proofs.refer.symbol.Reads as symbol-reads
+
+kind-at-requires : tie.Need-kind-at-requires
+kind-at-requires c κs = search needs
+
+add-u16-at : tie.Need-add-u16-at
+add-u16-at c = search needs
+
+u16-at-requires : tie.Need-u16-at-requires
+u16-at-requires c κs = search needs
+
+returns : tie.Need-returns
+unfolding statementAt
+returns c = float-first _ _ (sym (c .before .before .kind-at .ensures .0) ∙ c .before .if1 .taken) (c .u16-at .ensures .0)
 
 symbol-requires : tie.Need-symbol-requires
 symbol-requires c κs = search needs
 
-returns : tie.Need-returns
+returns-2 : tie.Need-returns-2
 unfolding statementAt
-returns c = c .symbol .ensures
+returns-2 c = c .symbol .ensures
 
 pub typecode-spec : {M : Type 1} → statement M
-typecode-spec = tie.close (tie.spec symbol-requires returns)
+typecode-spec =
+    tie.close
+    (tie.spec kind-at-requires add-u16-at u16-at-requires returns symbol-requires returns-2)

@@ -5,8 +5,8 @@ use borrow.Author.Needs.{needs}
 use Rattle.frames.proofs.record.rest_from.Statement.{statement}
 use Rattle.frames.proofs.record.rest_from.Tie as tie
 
-listed-from-requires : tie.Need-listed-from-requires
-listed-from-requires c κs = search needs
+any-listed-from-requires : tie.Need-any-listed-from-requires
+any-listed-from-requires c κs = search needs
 
 listed-count-requires : tie.Need-listed-count-requires
 listed-count-requires c κs = search needs
@@ -23,4 +23,4 @@ returns c = omega arith
 
 pub rest-from-spec : {M : Type 1} → statement M
 rest-from-spec =
-    tie.close (tie.spec listed-from-requires listed-count-requires mul-result add-result returns)
+    tie.close (tie.spec any-listed-from-requires listed-count-requires mul-result add-result returns)

@@ -1,0 +1,3 @@
+-- What the long-form call promises.
+pub mod Calls
+pub mod Telling

@@ -1,0 +1,3 @@
+-- The laws of a text that is written where it fits.
+pub mod Answers
+pub mod Fitting

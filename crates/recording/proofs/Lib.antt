@@ -1,0 +1,2 @@
+-- The laws of recording.
+pub mod Noting

@@ -1,0 +1,2 @@
+-- Recording an application.
+pub mod Notes

@@ -1,0 +1,4 @@
+-- The laws about sizes.
+pub mod Caps
+pub mod Measuring
+pub mod Passing

@@ -1,0 +1,2 @@
+-- How long the text of a recorded derivation is.
+pub mod Measured

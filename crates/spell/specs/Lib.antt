@@ -1,0 +1,3 @@
+-- What the words of a recorded derivation name, and what is written of it.
+pub mod Words
+pub mod Text

@@ -1,0 +1,2 @@
+-- The laws of recorded derivations.
+pub mod Recording

@@ -1,0 +1,2 @@
+-- How the tree entries hold a derivation.
+pub mod Recorded
