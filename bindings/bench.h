@@ -1,8 +1,10 @@
-/* The calls of the bench for a caller in C or C++: a frame file's proofs are answered with number, place and steps.
+/* The calls of the bench for a caller in C or C++: a frame file's proofs are answered with number, place and steps, and a proof's long
+ * form is written.
  *
  * Link with the static library of the crate bench_c (on x86-64: rt staticlib bench_c, which writes target/staticlib/libbench_c.a).
- * The library calls nothing and keeps nothing between calls. Its own tables take 319,744 bytes of the stack; all other memory is
- * lent by the caller.
+ * The library calls nothing and keeps nothing between calls. Its own tables are on the stack, of which bench_verify and
+ * bench_verify_all take about 325,000 bytes (319,744 for the tables) and bench_long about 931,000, as measured on x86-64; all other
+ * memory is lent by the caller.
  *
  * A slice is a pointer and a length, in this order; the length counts the slice's elements (bytes, or words of 64 bits). A pointer is
  * never null, also where the length is 0; a pointer to words is aligned to 8 bytes; no two slices of one call overlap.
@@ -17,19 +19,21 @@
 extern "C" {
 #endif
 
-/* The greatest sizes. What is lent above them is cleared and not used. */
+/* The greatest sizes. What is lent above them is not used; of pool, stack, places and tree it is cleared, too. */
 #define BENCH_FILE_BYTES 1048576   /* a longer file is refused: 2, place 0 */
 #define BENCH_ANSWERS 4096         /* so many answers suffice for every file */
 #define BENCH_POOL_BYTES 65536     /* bytes of the pool */
 #define BENCH_STACK_ENTRIES 1024   /* entries of the stack */
 #define BENCH_PLACES 4096          /* places */
+#define BENCH_TREE_ENTRIES 131071  /* so many entries of the tree suffice for every proof; each is one word */
+#define BENCH_LONG_BYTES 65536     /* bytes of the longest long form that is written */
 #define BENCH_ENTRY_WORDS 10       /* words of an entry of the stack */
 #define BENCH_PLACE_WORDS 10       /* words of a place */
 #define BENCH_STACK_WORDS (BENCH_STACK_ENTRIES * BENCH_ENTRY_WORDS)
 #define BENCH_PLACES_WORDS (BENCH_PLACES * BENCH_PLACE_WORDS)
 
 /* The numbers of an answer, with their names. 1 to 7 are about the file, 8 about the statement that was asked for, 20 to 46 about its
- * proof. */
+ * proof, 60 and 61 about the room for its long form. */
 #define BENCH_NUMBERS(ROW) \
     ROW(0, Accepted) \
     ROW(1, BadRecord) \
@@ -66,7 +70,9 @@ extern "C" {
     ROW(43, PoolFull) \
     ROW(44, TooManyVariables) \
     ROW(45, StackFull) \
-    ROW(46, PlacesFull)
+    ROW(46, PlacesFull) \
+    ROW(60, TreeFull) \
+    ROW(61, LongFull)
 
 /* BENCH_Accepted is 0, BENCH_BadRecord is 1, and so on. */
 enum bench_number {
@@ -79,8 +85,8 @@ enum bench_number {
 /* The number of an answer: 0 accepted, else why it is refused. */
 static inline unsigned bench_number(uint64_t answer) { return (unsigned)(answer & 255); }
 
-/* The place of an answer: for 1 to 7 an offset in the file, for 0 and 20 to 46 an offset in the proof's text (the text's length for
- * findings at its end), for 8 it is 0. */
+/* The place of an answer: for 1 to 7 an offset in the file, for 0, 20 to 46, 60 and 61 an offset in the proof's text (the text's length
+ * for findings at its end), for 8 it is 0. For 0 from bench_long it is the length of the long form. */
 static inline uint32_t bench_place(uint64_t answer) { return (uint32_t)(answer >> 8 & 16777215); }
 
 /* The steps of the proof that were completed; 0 for 1 to 8. */
@@ -126,6 +132,26 @@ uint64_t bench_verify(const uint8_t *file, size_t file_length, size_t statement,
 uint64_t bench_verify_all(const uint8_t *file, size_t file_length, uint64_t *answers, size_t answers_length,
                           uint8_t *pool, size_t pool_length, uint64_t *stack, size_t stack_length,
                           uint64_t *places, size_t places_length);
+
+/* Writes the long form of one statement's proof: the labels of its derivation in post-order, one space between. Answers number + 256 *
+ * place + 2^32 * steps:
+ *
+ * 1 to 8, 20 to 46       the proof's refusal, just as bench_verify gives it with the same memory.
+ * 60 TreeFull            the proof is accepted, and 2 * steps - 1 is above tree_length. Place and steps are those of bench_verify.
+ * 61 LongFull            else, and the long form is longer than output_length or than BENCH_LONG_BYTES. Place and steps as for 60.
+ * 0                      else: the long form is written. Place is its length, steps are those of the proof that it is made from.
+ *
+ * file to places_length  are as in bench_verify.
+ * tree, tree_length      words for the derivation, one for each entry. BENCH_TREE_ENTRIES always suffice.
+ * output, output_length  bytes for the long form; at most BENCH_LONG_BYTES are written.
+ *
+ * Any length will do for pool, stack, places, tree and output, 0 too. The answer does not depend on what they held. Afterwards pool,
+ * stack, places and tree are zero in their whole length, whatever the answer. For 0 the long form stands in the front of `output`, with no
+ * byte after it, and the rest of `output` is left as it was; for every other answer all of it is left as it was. */
+uint64_t bench_long(const uint8_t *file, size_t file_length, size_t statement,
+                    uint8_t *pool, size_t pool_length, uint64_t *stack, size_t stack_length,
+                    uint64_t *places, size_t places_length, uint64_t *tree, size_t tree_length,
+                    uint8_t *output, size_t output_length);
 
 #ifdef __cplusplus
 }

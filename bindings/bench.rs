@@ -1,10 +1,12 @@
-//! The calls of the bench for a caller in Rust: a frame file's proofs are answered with number, place and steps.
+//! The calls of the bench for a caller in Rust: a frame file's proofs are answered with number, place and steps, and a proof's long form
+//! is written.
 //!
 //! Copy this file into a project as a module and link the static library of the crate bench_c (on x86-64: `rt staticlib bench_c`, which
 //! writes target/staticlib/libbench_c.a). Nothing here is unsafe to call. It needs neither the standard library nor a heap: the caller
-//! lends all memory but the stack, of which a call's own tables take 319,744 bytes.
+//! lends all memory but the stack, of which `verify` and `verify_all` take about 325,000 bytes (319,744 for tables of their own) and
+//! `long_form` about 931,000, as measured on x86-64.
 
-/// The greatest sizes. What is lent above them is cleared and not used.
+/// The greatest sizes. What is lent above them is not used; of pool, stack, places and tree it is cleared, too.
 pub const FILE_BYTES: usize = 1_048_576;
 /// So many answers suffice for every file.
 pub const ANSWERS: usize = 4_096;
@@ -14,6 +16,10 @@ pub const POOL_BYTES: usize = 65_536;
 pub const STACK_ENTRIES: usize = 1_024;
 /// Places.
 pub const PLACES: usize = 4_096;
+/// So many entries of the tree suffice for every proof; each is one word.
+pub const TREE_ENTRIES: usize = 131_071;
+/// Bytes of the longest long form that is written.
+pub const LONG_BYTES: usize = 65_536;
 /// Words of an entry of the stack.
 pub const ENTRY_WORDS: usize = 10;
 /// Words of a place.
@@ -24,8 +30,8 @@ pub const STACK_WORDS: usize = STACK_ENTRIES * ENTRY_WORDS;
 pub const PLACES_WORDS: usize = PLACES * PLACE_WORDS;
 
 /// The numbers of an answer, with their names. 1 to 7 are about the file, 8 about the statement that was asked for, 20 to 46 about its
-/// proof.
-pub const NUMBERS: [(u8, &str); 36] = [
+/// proof, 60 and 61 about the room for its long form.
+pub const NUMBERS: [(u8, &str); 38] = [
     (0, "Accepted"),
     (1, "BadRecord"),
     (2, "TooMany"),
@@ -62,9 +68,12 @@ pub const NUMBERS: [(u8, &str); 36] = [
     (44, "TooManyVariables"),
     (45, "StackFull"),
     (46, "PlacesFull"),
+    (60, "TreeFull"),
+    (61, "LongFull"),
 ];
 
-/// An answer: number 0 is accepted. The place is an offset in the file for 1 to 7, else in the proof's text.
+/// An answer: number 0 is accepted. The place is an offset in the file for 1 to 7, else in the proof's text; for 0 from `long_form` it is
+/// the length of the long form.
 #[derive(Clone, Copy, PartialEq, Eq, Debug)]
 pub struct Answer {
     pub number: u8,
@@ -124,6 +133,21 @@ mod native {
             places: *mut u64,
             places_length: usize,
         ) -> u64;
+        pub fn bench_long(
+            file: *const u8,
+            file_length: usize,
+            statement: usize,
+            pool: *mut u8,
+            pool_length: usize,
+            stack: *mut u64,
+            stack_length: usize,
+            places: *mut u64,
+            places_length: usize,
+            tree: *mut u64,
+            tree_length: usize,
+            output: *mut u8,
+            output_length: usize,
+        ) -> u64;
     }
 }
 
@@ -170,4 +194,30 @@ pub fn verify_all(file: &[u8], answers: &mut [u64], room: &mut Room) -> Result<u
     } else {
         Err(answer)
     }
+}
+
+/// The long form of one statement's proof: the labels of its derivation in post-order, one space between. It answers the proof's refusal,
+/// as `verify`; else 60 where 2 * steps - 1 is above the length of `tree`; else 61 where the long form is longer than `output` or than
+/// `LONG_BYTES`, both with the place and steps of `verify`; else 0, its length as the place, and the steps of the proof that it is made
+/// from. `tree` has one word for each entry (`TREE_ENTRIES` always suffice) and is zero after the call, as the room is. For 0 the long
+/// form is `output[..place]` and the rest of `output` is untouched; for every other answer all of it is.
+pub fn long_form(file: &[u8], statement: usize, room: &mut Room, tree: &mut [u64], output: &mut [u8]) -> Answer {
+    // As in `verify`.
+    Answer::of(unsafe {
+        native::bench_long(
+            file.as_ptr(),
+            file.len(),
+            statement,
+            room.pool.as_mut_ptr(),
+            room.pool.len(),
+            room.stack.as_mut_ptr(),
+            room.stack.len(),
+            room.places.as_mut_ptr(),
+            room.places.len(),
+            tree.as_mut_ptr(),
+            tree.len(),
+            output.as_mut_ptr(),
+            output.len(),
+        )
+    })
 }

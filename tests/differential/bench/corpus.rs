@@ -12,7 +12,7 @@ use crate::vectors::read;
 use std::path::{Path, PathBuf};
 
 /// Each call for one statement checks the whole file, which takes long for a large one: of a file above 65,536 bytes every twentieth proof is called alone.
-fn alone(file: &[u8], ix: usize) -> bool {
+pub fn alone(file: &[u8], ix: usize) -> bool {
     file.len() <= 65_536 || ix % 20 == 0
 }
 

@@ -10,11 +10,11 @@ pub struct Provable {
     pub text: Range<usize>,
 }
 
-fn u16_at(file: &[u8], at: usize) -> usize {
+pub fn u16_at(file: &[u8], at: usize) -> usize {
     usize::from(file[at]) + 256 * usize::from(file[at + 1])
 }
 
-fn u32_at(file: &[u8], at: usize) -> usize {
+pub fn u32_at(file: &[u8], at: usize) -> usize {
     u16_at(file, at) + 65_536 * u16_at(file, at + 2)
 }
 

@@ -1,5 +1,5 @@
 //! The calls with every buffer between guards. What is lent holds something before a call; after it the buffers are looked through: all
-//! lent memory is zero, the guards, the file and the unused answers are as they were.
+//! lent memory is zero, the guards, the file, the unused answers and what no long form was written to are as they were.
 
 use crate::bench::{self, Answer, Room};
 
@@ -9,12 +9,14 @@ const GUARD_WORD: u64 = 0xc3c3_c3c3_c3c3_c3c3;
 /// What stands in `answers` before a call; no answer looks like it.
 const NO_ANSWER: u64 = 0xffff_ffff_ffff_ffff;
 
-/// What is lent: bytes of pool, words of stack and of places.
+/// What is lent: bytes of pool, words of stack and of places; for a long form entries of the tree and bytes of output as well.
 #[derive(Clone, Copy, Debug)]
 pub struct Size {
     pub pool: usize,
     pub stack: usize,
     pub places: usize,
+    pub tree: usize,
+    pub output: usize,
 }
 
 impl Size {
@@ -24,7 +26,14 @@ impl Size {
             pool,
             stack: entries * bench::ENTRY_WORDS,
             places: places * bench::PLACE_WORDS,
+            tree: 0,
+            output: 0,
         }
+    }
+
+    /// The same, and for a long form so many entries of the tree and bytes of output.
+    pub fn with(self, tree: usize, output: usize) -> Size {
+        Size { tree, output, ..self }
     }
 
     pub fn greatest() -> Size {
@@ -107,6 +116,12 @@ impl<T: Copy + PartialEq + Default + Filled> Buffer<T> {
         self.held[GUARD..GUARD + self.length].iter().all(|item| *item == zero)
     }
 
+    /// From this element on all is as `fill` left it.
+    fn kept(&self, from: usize, seed: u8) -> bool {
+        let lent = &self.held[GUARD..GUARD + self.length];
+        (from..self.length).all(|ix| lent[ix] == T::filled(seed, ix))
+    }
+
     /// What is wrong with a lent working buffer after a call.
     fn fault(&self, name: &str) -> Option<String> {
         if !self.guarded() {
@@ -122,6 +137,8 @@ pub struct Lent {
     pool: Buffer<u8>,
     stack: Buffer<u64>,
     places: Buffer<u64>,
+    tree: Buffer<u64>,
+    output: Buffer<u8>,
     answers: Buffer<u64>,
     /// How many calls were made.
     pub calls: u64,
@@ -134,6 +151,8 @@ impl Lent {
             pool: Buffer::new(GUARD_BYTE),
             stack: Buffer::new(GUARD_WORD),
             places: Buffer::new(GUARD_WORD),
+            tree: Buffer::new(GUARD_WORD),
+            output: Buffer::new(GUARD_BYTE),
             answers: Buffer::new(GUARD_WORD),
             calls: 0,
         }
@@ -167,6 +186,30 @@ impl Lent {
         };
         let answer = bench::verify(self.file.lent(), statement, &mut room);
         self.fault(file).map_or(Ok(answer), Err)
+    }
+
+    /// The answer for the long form of one statement's proof, and what was written; a fault of the buffers instead, if there is one.
+    pub fn long_form(&mut self, file: &[u8], statement: usize, size: Size, before: u8) -> Result<(Answer, Vec<u8>), String> {
+        self.ready(file, size, before);
+        self.tree.fill(size.tree, before);
+        self.output.fill(size.output, before);
+        let mut room = Room {
+            pool: self.pool.lent(),
+            stack: self.stack.lent(),
+            places: self.places.lent(),
+        };
+        let answer = bench::long_form(self.file.lent(), statement, &mut room, self.tree.lent(), self.output.lent());
+        if let Some(fault) = self.fault(file).or_else(|| self.tree.fault("the tree")) {
+            return Err(fault);
+        }
+        if !self.output.guarded() {
+            return Err("a guard beside the output was changed".into());
+        }
+        let written = if answer.number == 0 { answer.place as usize } else { 0 };
+        if written > size.output || !self.output.kept(written, before) {
+            return Err(format!("{answer:?}, and the output was changed after {written} bytes"));
+        }
+        Ok((answer, self.output.lent()[..written].to_vec()))
     }
 
     /// The answers for all $p, with so many answers lent.

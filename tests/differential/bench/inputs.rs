@@ -41,6 +41,8 @@ impl Random {
             pool: self.length(64, 65_536),
             stack: self.length(80, 10_240),
             places: self.length(80, 40_960),
+            tree: 0,
+            output: 0,
         }
     }
 

@@ -22,9 +22,9 @@ pub fn strange(answer: Answer, text: &[u8]) -> Option<String> {
     (!good || steps > end).then(|| format!("{} is no answer that a proof can have", show(answer)))
 }
 
-/// What is wrong with this answer for any file and any statement.
+/// What is wrong with this answer of a run for any file and any statement; 60 and 61 are for long forms alone.
 pub fn no_answer(answer: Answer, file: &[u8]) -> Option<String> {
-    let known = NUMBERS.iter().any(|row| row.0 == answer.number);
+    let known = NUMBERS.iter().any(|row| row.0 == answer.number && row.0 < 60);
     let place = answer.place as usize <= file.len();
     let early = answer.number == 0 || answer.number > 8 || answer.steps == 0;
     (!known || !place || !early).then(|| format!("{} is no answer", show(answer)))

@@ -7,14 +7,17 @@
 #[path = "../../../bindings/bench.rs"]
 mod bench;
 mod corpus;
+mod doubling;
 mod frame;
 mod guarded;
 mod inputs;
 mod judge;
 mod known;
+mod long;
 mod mutants;
 mod oracle;
 mod random;
+mod slice;
 mod tally;
 mod vectors;
 
@@ -35,8 +38,11 @@ fn main() {
     let mut lent = guarded::Lent::new();
     let tenths = (10 * count.min(WHOLE)).div_ceil(WHOLE).max(1);
     corpus::run(&mut tally, &mut lent, &oracle, &corpus);
+    long::corpus(&mut tally, &mut lent, &oracle, &corpus, &work);
     vectors::run(&mut tally, &mut lent, &vectors);
-    mutants::run(&mut tally, &mut lent, &oracle, &corpus, &work, tenths);
+    doubling::run(&mut tally, &mut lent);
+    let fourth = mutants::run(&mut tally, &mut lent, &oracle, &corpus, &work, tenths);
+    long::mutants(&mut tally, &mut lent, &oracle, &fourth, &work);
     mutants::random_proofs(&mut tally, &mut lent, &oracle, &work, 10 * tenths);
     random::run(&mut tally, &mut lent, &oracle, (&corpus, &vectors, &work), count);
     println!("{} calls; after each one the lent memory was looked through, and the guards", lent.calls);

@@ -9,7 +9,7 @@ use crate::inputs::{proof_text, Random};
 use crate::judge::{compare, show, strange, Stand};
 use crate::oracle::{Oracle, Said};
 use crate::tally::{Case, Tally};
-use std::path::Path;
+use std::path::{Path, PathBuf};
 
 /// How many mutants of which database; 2,000 in all.
 const MUTANTS: [(&str, usize); 11] = [
@@ -83,9 +83,10 @@ fn database(tally: &mut Tally, lent: &mut Lent, oracle: &Oracle, path: &Path, ra
     proofs.len()
 }
 
-pub fn run(tally: &mut Tally, lent: &mut Lent, oracle: &Oracle, corpus: &Path, work: &Path, of_ten: usize) {
+/// Gives every fourth mutant, for their long forms; the others are removed.
+pub fn run(tally: &mut Tally, lent: &mut Lent, oracle: &Oracle, corpus: &Path, work: &Path, of_ten: usize) -> Vec<PathBuf> {
     let mut random = Random(2_026);
-    let (mut files, mut proofs) = (0, 0);
+    let (mut files, mut proofs, mut fourth) = (0, 0, Vec::new());
     for (seed, (name, count)) in MUTANTS.iter().enumerate() {
         let out = work.join(format!("mutants-{seed}"));
         std::fs::create_dir_all(&out).expect("a folder for mutants");
@@ -93,10 +94,15 @@ pub fn run(tally: &mut Tally, lent: &mut Lent, oracle: &Oracle, corpus: &Path, w
         for path in oracle.mutate(&base, 4_000 + seed as u64, (count * of_ten).div_ceil(10), &out) {
             proofs += database(tally, lent, oracle, &path, &mut random);
             files += 1;
+            if files % 4 == 0 {
+                fourth.push(path);
+            } else {
+                std::fs::remove_file(&path).expect("the mutant goes");
+            }
         }
-        std::fs::remove_dir_all(&out).expect("the folder goes");
     }
     tally.part("mutants", &format!("{files} files, {proofs} proofs; known: a limit is passed, apart: turned marks"));
+    fourth
 }
 
 /// The bench table's database with random proofs of th1's and th2's claims, a hundred in a file.

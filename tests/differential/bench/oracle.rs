@@ -1,7 +1,7 @@
 //! The oracle, run as a program: the answers of metamath-rs 0.3.9 for a database.
 
 use crate::bench::NUMBERS;
-use std::collections::HashSet;
+use std::collections::{HashMap, HashSet};
 use std::path::{Path, PathBuf};
 use std::process::Command;
 
@@ -69,6 +69,18 @@ impl Oracle {
         rows.into_iter().filter(|row| row[1] == "turned").map(|row| row[0].clone()).collect()
     }
 
+    /// The long forms of the accepted proofs by their labels; `TOOLONG` or `UNSOUND` for one that is not written.
+    pub fn long_forms(&self, database: &Path) -> HashMap<String, String> {
+        by_label(&String::from_utf8(self.run(&["longform", text(database)], &[0])).expect("the oracle writes text"))
+    }
+
+    /// What room the Rust needs for the long form of this proof; `made` is where the database with long forms is written.
+    pub fn room_of_long(&self, database: &Path, label: &str, made: &Path) -> Option<Said> {
+        let rewritten = self.run(&["rewrite", text(database), "--form", "long", "--limit", "65536"], &[0]);
+        std::fs::write(made, rewritten).expect("a database can be written");
+        self.room(made).into_iter().find(|said| said.label == label)
+    }
+
     pub fn mutate(&self, database: &Path, seed: u64, count: usize, out: &Path) -> Vec<PathBuf> {
         let (seed, count) = (seed.to_string(), count.to_string());
         self.run(&["mutate", text(database), "--seed", &seed, "--count", &count, "--out", text(out)], &[0]);
@@ -102,4 +114,15 @@ pub fn stored(path: &Path) -> Vec<(String, String, u32)> {
         (words[0].to_owned(), words[1].to_owned(), words[2].parse().expect("steps"))
     };
     text.lines().map(row).collect()
+}
+
+/// The stored long forms of a corpus file.
+pub fn stored_long(path: &Path) -> HashMap<String, String> {
+    by_label(&std::fs::read_to_string(path).unwrap_or_else(|why| panic!("{}: {why}", path.display())))
+}
+
+/// Lines of a label, a colon, a space and a long form.
+fn by_label(lines: &str) -> HashMap<String, String> {
+    let row = |line: &str| line.split_once(": ").map(|(label, text)| (label.to_owned(), text.to_owned()));
+    lines.lines().map(|line| row(line).expect("a label and a long form")).collect()
 }

@@ -1,10 +1,11 @@
 //! Random bytes as file and as proof. There is no stated answer here; what is checked is what must hold for every input.
 
-use crate::bench::Answer;
+use crate::bench::{Answer, LONG_BYTES, TREE_ENTRIES};
 use crate::frame::provables;
 use crate::inputs::{bases, input, Random};
 use crate::guarded::{All, Lent, Size};
 use crate::judge::{no_answer, show, strange};
+use crate::long::{back, entries};
 use crate::oracle::Oracle;
 use crate::tally::{Case, Tally};
 use std::path::{Path, PathBuf};
@@ -21,6 +22,27 @@ fn among(all: &All, file: &[u8], statement: usize) -> Option<Answer> {
             }
         }
     }
+}
+
+/// What is wrong with the long form on this input, given the answer of the run: each accepted proof is tried, and some others.
+fn long_form(lent: &mut Lent, random: &mut Random, file: &[u8], statement: usize, size: Size, run: Answer) -> Result<(), String> {
+    let (tree, output) = (random.below(20), random.below(40));
+    let (answer, text) = lent.long_form(file, statement, size.with(tree, output), random.next() as u8)?;
+    if run.number != 0 {
+        return if answer == run { Ok(()) } else { Err(format!("{}, and its long form {}", show(run), show(answer))) };
+    }
+    let (most, whole) = lent.long_form(file, statement, size.with(TREE_ENTRIES, LONG_BYTES), 0x0f)?;
+    let due = match () {
+        () if tree < entries(run.steps) => Answer { number: 60, ..run },
+        () if output < whole.len() => Answer { number: 61, ..run },
+        () => most,
+    };
+    let length = whole.len() as u32;
+    if answer != due || (answer.number == 0 && text != whole) || most != (Answer { number: 0, place: length, ..run }) {
+        return Err(format!("with {tree} entries and {output} bytes the long form is {}, with the most {}", show(answer), show(most)));
+    }
+    let claim = provables(file).into_iter().find(|proof| proof.statement == statement).expect("accepted");
+    back(lent, file, &claim, &whole).map(|_| ())
 }
 
 /// What is wrong with the calls on this input.
@@ -82,13 +104,18 @@ pub fn run(tally: &mut Tally, lent: &mut Lent, oracle: &Oracle, folders: (&Path,
     let (corpus, vectors, work) = folders;
     let bases = bases(corpus, vectors);
     let mut random = Random(0x1eaf);
-    let mut met = [0u64; 256];
+    let (mut met, mut long) = ([0u64; 256], 0);
+    let mut sizes = Random(0xf01d);
     let mut samples = Vec::new();
     let apart = (count / 2_000).max(1);
     for ix in 0..count {
         let (name, file, statement) = input(&mut random, &bases);
         let size = random.size();
-        let found = tried(lent, &mut random, &file, statement, size);
+        let mut found = tried(lent, &mut random, &file, statement, size);
+        if let Some(answer) = found.as_ref().ok().copied().filter(|answer| answer.number == 0 || ix % 8 == 0) {
+            long += 1;
+            found = long_form(lent, &mut sizes, &file, statement, size, answer).map(|()| answer);
+        }
         let case = Case {
             name,
             file: &file,
@@ -104,7 +131,7 @@ pub fn run(tally: &mut Tally, lent: &mut Lent, oracle: &Oracle, folders: (&Path,
         tally.count(found.err(), &case);
     }
     let numbers: Vec<String> = (0..256).filter(|ix| met[*ix] > 0).map(|ix| format!("{ix}:{}", met[ix])).collect();
-    tally.part("random", &format!("{count} inputs, three calls each; answers met {}", numbers.join(" ")));
+    tally.part("random", &format!("{count} inputs, three calls each, and long forms of {long}; answers met {}", numbers.join(" ")));
     verdicts(tally, oracle, &work.join("samples"), &samples);
     tally.part("random, file check", "a sample of them against oracle framecheck");
 }

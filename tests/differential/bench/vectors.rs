@@ -23,12 +23,24 @@ fn stated(form: &str, answer: &str) -> (u8, Option<u32>, u32) {
     }
 }
 
+/// The long form that a line states: its answer, what was written, and the memory.
+fn long_form(lent: &mut Lent, file: &[u8], fields: &[&str], size: Size) -> Option<String> {
+    let statement = fields[2].parse().expect("a number");
+    match lent.long_form(file, statement, size, 0x6b) {
+        Err(fault) => Some(fault),
+        Ok((answer, text)) => {
+            let same = show(answer) == fields[8] && text == fields[9].as_bytes();
+            (!same).then(|| format!("answered {} {:?}, stated {} {:?}", show(answer), String::from_utf8_lossy(&text), fields[8], fields[9]))
+        }
+    }
+}
+
 /// One line of calls.tsv.
 fn call(tally: &mut Tally, lent: &mut Lent, folder: &Path, line: &str) {
     let fields: Vec<&str> = line.split('\t').collect();
     let number = |ix: usize| fields[ix].parse::<usize>().expect("a number");
     let file = read(&folder.join(fields[0]));
-    let size = Size::of(number(3), number(4), number(5));
+    let size = Size::of(number(3), number(4), number(5)).with(number(6), number(7));
     let (due, place, steps) = stated(fields[1], fields[8]);
     let case = Case {
         name: fields[0],
@@ -45,6 +57,9 @@ fn call(tally: &mut Tally, lent: &mut Lent, folder: &Path, line: &str) {
         }
     };
     tally.count(wrong, &case);
+    if fields[1] == "longform" {
+        tally.count(long_form(lent, &file, &fields, size), &case);
+    }
 }
 
 /// What the program writes for such answers.
@@ -90,7 +105,7 @@ pub fn run(tally: &mut Tally, lent: &mut Lent, vectors: &Path) {
     }
     let long = text.lines().filter(|line| line.contains("\tlongform\t")).count();
     let plain = text.lines().count() - long;
-    tally.part("vectors, calls", &format!("{plain} verify lines, and the proof's answer of {long} longform lines"));
+    tally.part("vectors, calls", &format!("{plain} verify lines, {long} longform lines whole, and the proof's answer of these"));
     let entries = std::fs::read_dir(vectors.join("program")).expect("the folder of program vectors");
     let mut paths: Vec<_> = entries.map(|entry| entry.expect("an entry").path()).collect();
     paths.retain(|path| path.extension().is_some_and(|end| end == "frames"));
