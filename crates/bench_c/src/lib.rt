@@ -57,6 +57,6 @@ pub extern "C" fn bench_long(
 ) -> u64
     ensures { λ r. ⌜ LongWord (now (file .entry)) statement (now (pool .entry)) (now (stack .entry)) (now (places .entry)) (now (tree .entry)) (now (output .entry)) (now (pool .exit)) (now (stack .exit)) (now (places .exit)) (now (tree .exit)) (now (output .exit)) r ⌝ }
 {
-    let told = long::long_form(file, statement, pool, stack, places, tree, output);
-    pack(told.number, told.place, told.steps)
+    let written = long::long_form(file, statement, pool, stack, places, tree, output);
+    pack(written.number, written.place, written.steps)
 }
