@@ -136,7 +136,7 @@ uint64_t bench_verify_all(const uint8_t *file, size_t file_length, uint64_t *ans
 /* Writes the long form of one statement's proof: the labels of its derivation in post-order, one space between. Answers number + 256 *
  * place + 2^32 * steps:
  *
- * 1 to 8, 20 to 46       the proof's refusal, just as bench_verify gives it with the same memory.
+ * 1 to 8, 20 to 46       the refusal of the file, the statement or the proof, as bench_verify gives it with the same memory.
  * 60 TreeFull            the proof is accepted, and 2 * steps - 1 is above tree_length. Place and steps are those of bench_verify.
  * 61 LongFull            else, and the long form is longer than output_length or than BENCH_LONG_BYTES. Place and steps as for 60.
  * 0                      else: the long form is written. Place is its length, steps are those of the proof that it is made from.

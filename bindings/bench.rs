@@ -72,7 +72,7 @@ pub const NUMBERS: [(u8, &str); 38] = [
     (61, "LongFull"),
 ];
 
-/// An answer: number 0 is accepted. The place is an offset in the file for 1 to 7, else in the proof's text; for 0 from `long_form` it is
+/// An answer: number 0 is accepted. The place is an offset in the file for 1 to 7, 0 for 8, else an offset in the proof's text; for 0 from `long_form` it is
 /// the length of the long form.
 #[derive(Clone, Copy, PartialEq, Eq, Debug)]
 pub struct Answer {
