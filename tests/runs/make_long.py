@@ -1,5 +1,5 @@
 #!/usr/bin/env python3
-"""Writes crates/longform/proofs/Examples.antt, whose `unfolding` lines name every definition on the way.
+"""Writes crates/postorder/proofs/Examples.antt, whose `unfolding` lines name every definition on the way.
 
     make_long.py
 """
@@ -10,7 +10,7 @@ import sys
 sys.path.insert(0, os.path.dirname(os.path.abspath(__file__)))
 import make_try
 
-PATH = make_try.ROOT + '/crates/longform/proofs/Examples.antt'
+PATH = make_try.ROOT + '/crates/postorder/proofs/Examples.antt'
 HEAD = ['-- Long forms computed inside the checker, on the bytes of the files. The `unfolding` lines name every definition on the way;',
         '-- tests/runs/make_long.py writes them.']
 LISTS = [('limits', 'tree entries and output: just enough, and one short'), ('refusals', "the proof's own refusal comes first"),
@@ -24,7 +24,7 @@ def names(path):
 
 
 make_try.names = names
-use, unfold = make_try.opened('longform', ['LongForm', 'LongTable'])
+use, unfold = make_try.opened('postorder', ['LongForm', 'LongTable'])
 out = HEAD + ['use mathlib.Core.Path.{_≡_, refl}', 'use mathlib.Core.List.{map}'] + use
 for name, comment in LISTS:
     out += ['', f'-- {comment}', f'pub {name}-hold : map longAnswered {name} ≡ map longStated {name}', 'unfolding ' + ' '.join(unfold),

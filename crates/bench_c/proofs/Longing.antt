@@ -11,8 +11,8 @@ use Rattle.frames.specs.Database.{Database, database}
 use Rattle.frames.proofs.Chains.{atMost-true}
 use Rattle.machine.specs.Answer.{Answer, accepted, refused, turnedAway, notProvable, number, place, steps}
 use Rattle.machine.specs.Bench.{answer}
-use Rattle.longform.specs.LongForm.{LongAnswer, longText, fits, nothingWritten, written, entriesFor, mostBytes, longOf, longAnswer}
-use Rattle.longform.proofs.Sizes.{fits-exactly}
+use Rattle.postorder.specs.LongForm.{LongAnswer, longText, fits, nothingWritten, written, entriesFor, mostBytes, longOf, longAnswer}
+use Rattle.postorder.proofs.Sizes.{fits-exactly}
 use Rattle.answers.specs.Packed.{packedAnswer}
 use Rattle.told.specs.declared.Told.{Told}
 use Rattle.bench.specs.Calls.{roomIn}

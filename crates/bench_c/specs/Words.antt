@@ -4,7 +4,7 @@ use mathlib.Core.Path.{_≡_}
 use lib.ListN.{length}
 use Rattle.clearing.specs.Cleared.{cleared}
 use Rattle.frames.specs.Verdict.{laid}
-use Rattle.longform.specs.LongForm.{LongAnswer, longAnswer}
+use Rattle.postorder.specs.LongForm.{LongAnswer, longAnswer}
 use mathlib.Core.List.{List}
 use Rattle.frames.specs.Verdict.{numberOf, verdict}
 use Rattle.frames.specs.Database.{database}

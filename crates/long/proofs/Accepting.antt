@@ -20,8 +20,8 @@ use Rattle.run_bytes.specs.declared.Stopped.{Stopped}
 use Rattle.findings.specs.declared.Answer.the-variants.{Accepted, Refused}
 use Rattle.findings.specs.Tells.{Tells, accepts, refuses}
 use Rattle.tree.specs.Recorded.{Held}
-use Rattle.longform.specs.LongForm.{fits, nothingWritten, written, entriesFor, longOf}
-use Rattle.longform.proofs.Answers.{refusal-answered}
+use Rattle.postorder.specs.LongForm.{fits, nothingWritten, written, entriesFor, longOf}
+use Rattle.postorder.proofs.Answers.{refusal-answered}
 use Rattle.long_text.specs.declared.Written.{Written}
 use Rattle.long_text.specs.declared.Written.the-variants.{Whole, TooLong}
 use Rattle.long_text.specs.Long.{Long, WritesLong}

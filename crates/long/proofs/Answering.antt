@@ -18,7 +18,7 @@ use Rattle.machine.proofs.Numbers.{file-number}
 use Rattle.resolve.specs.Filed.{Filed}
 use Rattle.findings.specs.declared.Answer.{Answer}
 use Rattle.findings.specs.Tells.{Tells}
-use Rattle.longform.specs.LongForm.{longOf, longAnswer}
+use Rattle.postorder.specs.LongForm.{longOf, longAnswer}
 use Rattle.told.specs.declared.Told.{Told}
 use Rattle.told.specs.Says.{Says}
 use Rattle.bench.proofs.Asking.{beyond-says, other-says, text-few, proof-run}

@@ -14,12 +14,12 @@ use Rattle.machine.specs.Answer.{Answer, accepted, refused, turnedAway, notProv
 use Rattle.machine.specs.Bench.{answer}
 use Rattle.machine.specs.Memory.{Room}
 use Rattle.machine.specs.Promise.{Proves}
-use Rattle.longform.specs.LongForm.{longText, fits, mostBytes, LongAnswer, nothingWritten, written, entriesFor, longOf, longAnswer, withProof}
-use Rattle.longform.specs.SameBut.{SameBut}
-use Rattle.longform.proofs.Comes.{pool-full, stack-full}
-use Rattle.longform.proofs.Again.{Again, again, lacking}
-use Rattle.longform.proofs.Answers.{zero-written}
-use Rattle.longform.proofs.LongForms.{Enough, AcceptedWith, demand-three}
+use Rattle.postorder.specs.LongForm.{longText, fits, mostBytes, LongAnswer, nothingWritten, written, entriesFor, longOf, longAnswer, withProof}
+use Rattle.postorder.specs.SameBut.{SameBut}
+use Rattle.postorder.proofs.Comes.{pool-full, stack-full}
+use Rattle.postorder.proofs.Again.{Again, again, lacking}
+use Rattle.postorder.proofs.Answers.{zero-written}
+use Rattle.postorder.proofs.LongForms.{Enough, AcceptedWith, demand-three}
 use Rattle.told.specs.declared.Told.{Told}
 use Rattle.bench.specs.Calls.{roomIn, Verified}
 use Rattle.long.specs.Calls.{SaysLong, WritesLongForm}

@@ -5,7 +5,7 @@ use mathlib.Core.List.{List}
 use lib.ListN.{length}
 use Rattle.clearing.specs.Cleared.{cleared}
 use Rattle.frames.specs.Verdict.{laid}
-use Rattle.longform.specs.LongForm.{LongAnswer, longAnswer}
+use Rattle.postorder.specs.LongForm.{LongAnswer, longAnswer}
 use Rattle.told.specs.declared.Told.{Told}
 use Rattle.bench.specs.Calls.{roomIn, Zeroed}
 

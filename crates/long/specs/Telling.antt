@@ -9,7 +9,7 @@ use Rattle.machine.specs.Promise.{Counted}
 use Rattle.machine.specs.Run.{State}
 use Rattle.findings.specs.declared.Answer.{Answer}
 use Rattle.findings.specs.Tells.{Tells}
-use Rattle.longform.specs.LongForm.{longOf}
+use Rattle.postorder.specs.LongForm.{longOf}
 use Rattle.told.specs.declared.Told.{Told}
 use Rattle.long.specs.Calls.{SaysLong}
 

@@ -6,7 +6,7 @@ ghost use Rattle.frames.specs.Database.{database};
 ghost use Rattle.machine.specs.Bench.{answerGood};
 ghost use Rattle.resolve.specs.Filed.{Filed};
 ghost use Rattle.told.specs.Says.{roomLent};
-ghost use Rattle.longform.specs.LongForm.{longOf, longAnswer};
+ghost use Rattle.postorder.specs.LongForm.{longOf, longAnswer};
 ghost use Rattle.long.specs.Calls.{SaysLong, WritesLongForm};
 use crate::proving::prove_statement;
 use crate::writing::tell_long;

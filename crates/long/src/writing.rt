@@ -3,7 +3,7 @@ ghost use mathlib.Core.Path.{_≡_};
 ghost use lib.ListN.{length};
 ghost use Rattle.frames.specs.Logic.{below};
 ghost use Rattle.findings.specs.declared.Answer.the-variants.{Accepted};
-ghost use Rattle.longform.specs.LongForm.{entriesFor};
+ghost use Rattle.postorder.specs.LongForm.{entriesFor};
 ghost use Rattle.long.specs.Telling.{TellsLong};
 use findings::Answer;
 use long_text::Written;

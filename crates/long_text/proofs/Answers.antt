@@ -9,7 +9,7 @@ use Rattle.book.specs.Book.{Tree}
 use Rattle.frames.specs.Logic.{pick}
 use Rattle.frames.specs.Database.{Database}
 use Rattle.frames.specs.Verdict.{laid}
-use Rattle.longform.specs.LongForm.{longText, fits, mostBytes}
+use Rattle.postorder.specs.LongForm.{longText, fits, mostBytes}
 use Rattle.long_text.specs.declared.Written.the-variants.{Whole, TooLong}
 use Rattle.long_text.specs.Long.{answerOf, outputOf, Long}
 

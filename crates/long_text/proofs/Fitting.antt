@@ -10,8 +10,8 @@ use Rattle.book.specs.Book.{Tree, leaf, node}
 use Rattle.frames.specs.Database.{Database, database}
 use Rattle.frames.specs.Verdict.{laid}
 use Rattle.frames.proofs.Chains.{pick-first, pick-second, atMost-yes, atMost-no}
-use Rattle.longform.specs.LongForm.{longText, labelSize, treeSize, textLength, fits, mostBytes}
-use Rattle.longform.proofs.Sizes.{text-length}
+use Rattle.postorder.specs.LongForm.{longText, labelSize, treeSize, textLength, fits, mostBytes}
+use Rattle.postorder.proofs.Sizes.{text-length}
 use Rattle.sizes.specs.Measured.{capped, sizeAt, Measures}
 use Rattle.sizes.proofs.Caps.{fits-capped}
 use Rattle.spell.specs.Text.{WritesText}

@@ -8,7 +8,7 @@ use Rattle.book.specs.Book.{Tree}
 use Rattle.frames.specs.Logic.{pick}
 use Rattle.frames.specs.Database.{Database, database, GoodFile}
 use Rattle.frames.specs.Verdict.{laid}
-use Rattle.longform.specs.LongForm.{longText, treeSize, fits, mostBytes}
+use Rattle.postorder.specs.LongForm.{longText, treeSize, fits, mostBytes}
 use Rattle.sizes.specs.Measured.{capped}
 use Rattle.tree.specs.Recorded.{Held}
 use Rattle.long_text.specs.declared.Written.{Written}

@@ -2,7 +2,7 @@
 ghost use mathlib.Core.Path.{_≡_};
 ghost use Prim.Native.Nat.{_-_};
 ghost use lib.ListN.{length};
-ghost use Rattle.longform.specs.LongForm.{mostBytes};
+ghost use Rattle.postorder.specs.LongForm.{mostBytes};
 ghost use Rattle.long_text.specs.Long.{Tells, WritesLong};
 use sizes::measure;
 use sizes::size_of;

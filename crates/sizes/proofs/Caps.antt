@@ -7,8 +7,8 @@ use Rattle.book.specs.Book.{Tree}
 use Rattle.frames.specs.Logic.{atMost}
 use Rattle.frames.specs.Database.{Database}
 use Rattle.frames.proofs.Chains.{atMost-true, atMost-false, atMost-yes, atMost-no}
-use Rattle.longform.specs.LongForm.{treeSize, textLength, fits}
-use Rattle.longform.proofs.Sizes.{text-length, fits-exactly}
+use Rattle.postorder.specs.LongForm.{treeSize, textLength, fits}
+use Rattle.postorder.proofs.Sizes.{text-length, fits-exactly}
 use Rattle.sizes.specs.Measured.{capped}
 
 pub capped-few : (n : ℕ) → capped n ≤ 65538

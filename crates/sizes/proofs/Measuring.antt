@@ -15,7 +15,7 @@ use Rattle.frames.specs.Facts.{statementOf}
 use Rattle.frames.proofs.Chains.{pick-first, pick-second, below-yes, below-no, equal-yes, equal-no}
 use Rattle.facts.proofs.GoodFacts.{good-file-facts}
 use Rattle.machine.specs.Apply.{labelOf}
-use Rattle.longform.specs.LongForm.{labelSize, treeSize, forestSize}
+use Rattle.postorder.specs.LongForm.{labelSize, treeSize, forestSize}
 use Rattle.packed.specs.Lists.{Located}
 use Rattle.resolve.proofs.Filing.{located-statement}
 use Rattle.tree.specs.Recorded.{Applications, Among, last, earlier, Denotes, hypothesis, application, DenotesAll, nothing, more, Recorded, Onward, done, then}

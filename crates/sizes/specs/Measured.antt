@@ -8,7 +8,7 @@ use lib.ListN.{length, getD, set}
 use Rattle.book.specs.Book.{Tree}
 use Rattle.frames.specs.Logic.{below, equal, pick}
 use Rattle.frames.specs.Database.{database, statementAt, GoodFile}
-use Rattle.longform.specs.LongForm.{treeSize}
+use Rattle.postorder.specs.LongForm.{treeSize}
 use Rattle.tree.specs.Recorded.{Applications, Denotes, Recorded}
 
 -- a size as far as it is told apart

@@ -13,7 +13,7 @@ use Rattle.frames.specs.Facts.{statementOf}
 use Rattle.frames.proofs.Chains.{below-yes, equal-yes, equal-no, pick-first, pick-second}
 use Rattle.frames.proofs.Loops.{length-rows, here-rows, here-getD}
 use Rattle.facts.proofs.GoodFacts.{good-file-facts}
-use Rattle.longform.specs.LongForm.{postOrder, postOrders}
+use Rattle.postorder.specs.LongForm.{postOrder, postOrders}
 use Rattle.packed.specs.Lists.{Located}
 use Rattle.resolve.proofs.Filing.{located-statement}
 use Rattle.tree.specs.Recorded.{Applications, Among, last, earlier, Within, Denotes, hypothesis, application, DenotesAll, nothing, more, Recorded, further}

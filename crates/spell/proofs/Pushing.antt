@@ -9,8 +9,8 @@ use Rattle.book.specs.Book.{Forest}
 use Rattle.frames.specs.Database.{database, GoodFile}
 use Rattle.facts.proofs.GoodFacts.{good-facts}
 use Rattle.machine.specs.Apply.{labelOf}
-use Rattle.longform.specs.LongForm.{postOrder, postOrders, following}
-use Rattle.longform.proofs.OneText.{label-some}
+use Rattle.postorder.specs.LongForm.{postOrder, postOrders, following}
+use Rattle.postorder.proofs.OneText.{label-some}
 use Rattle.packed.specs.Lists.{Located}
 use Rattle.packed.specs.Pool.{written}
 use Rattle.packed.proofs.Written.{written-before}

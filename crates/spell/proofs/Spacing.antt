@@ -10,7 +10,7 @@ use lib.Seq.{length-take-le, drop-at, getD-append-add}
 use Rattle.frames.specs.Database.{Database}
 use Rattle.frames.proofs.Chains.{below-yes, below-no, pick-first, pick-second}
 use Rattle.machine.specs.Apply.{labelOf}
-use Rattle.longform.specs.LongForm.{following, joined}
+use Rattle.postorder.specs.LongForm.{following, joined}
 use Rattle.packed.specs.Pool.{written}
 use Rattle.packed.proofs.Written.{written-none, written-more, written-append}
 use Rattle.spell.specs.Text.{Puts}

@@ -11,8 +11,8 @@ use Rattle.book.specs.Book.{Tree, leaf, node}
 use Rattle.frames.specs.Database.{Statement, Database, database, statementAt, GoodFile}
 use Rattle.frames.proofs.Chains.{below-yes, atMost-yes, pick-first}
 use Rattle.machine.specs.Apply.{labelOf}
-use Rattle.longform.specs.LongForm.{postOrder, postOrders, following, longText, treeSize, textLength}
-use Rattle.longform.proofs.Sizes.{text-length}
+use Rattle.postorder.specs.LongForm.{postOrder, postOrders, following, longText, treeSize, textLength}
+use Rattle.postorder.proofs.Sizes.{text-length}
 use Rattle.packed.specs.Pool.{written}
 use Rattle.packed.specs.Lists.{Located}
 use Rattle.resolve.proofs.Filing.{located-statement}

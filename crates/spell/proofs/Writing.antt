@@ -8,7 +8,7 @@ use lib.ListN.{length, getD, drop, set, length-set}
 use Rattle.frames.specs.Logic.{below, atMost, pick}
 use Rattle.frames.specs.Database.{Database, database, statementAt, GoodFile}
 use Rattle.frames.proofs.Chains.{below-true, atMost-true}
-use Rattle.longform.specs.LongForm.{following}
+use Rattle.postorder.specs.LongForm.{following}
 use Rattle.packed.specs.Pool.{written}
 use Rattle.packed.proofs.Written.{written-past}
 use Rattle.tree.specs.Recorded.{Applications, Recorded}

@@ -8,7 +8,7 @@ use Rattle.book.specs.Book.{Tree}
 use Rattle.frames.specs.Logic.{below, pick}
 use Rattle.frames.specs.Database.{database, GoodFile}
 use Rattle.packed.specs.Pool.{written}
-use Rattle.longform.specs.LongForm.{postOrder, following, longText, treeSize}
+use Rattle.postorder.specs.LongForm.{postOrder, following, longText, treeSize}
 use Rattle.tree.specs.Recorded.{Applications, Denotes, Recorded}
 
 -- a label with a space before it ends right before `end`, where it fits, and else nothing is changed; where it begins

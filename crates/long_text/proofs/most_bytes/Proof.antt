@@ -1,5 +1,5 @@
 -- `long_text::most_bytes` meets its contract: it is the lesser of the two numbers.
-use Rattle.longform.specs.LongForm.{mostBytes}
+use Rattle.postorder.specs.LongForm.{mostBytes}
 use native.Mathlib.Omega.{arith}
 use Rattle.long_text.proofs.most_bytes.Statement.{statement}
 use Rattle.long_text.proofs.most_bytes.Tie as tie

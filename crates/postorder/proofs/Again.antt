@@ -25,15 +25,15 @@ use Rattle.machine.specs.Promise.{Proves, Derived, derived}
 use Rattle.machine.proofs.Gives.{Stands, goes, ends}
 use Rattle.machine.proofs.Every.{Every, none, also}
 use Rattle.machine.proofs.Acceptance.{run-derived}
-use Rattle.longform.specs.LongForm.{postOrder, joined, longText}
-use Rattle.longform.proofs.Comes.{Lacks, Comes, comes}
-use Rattle.longform.proofs.OneText.{Numbered, derivation-numbered}
-use Rattle.longform.proofs.Few.{Once, none, all-once}
-use Rattle.longform.proofs.Entries.{plain}
-use Rattle.longform.proofs.Steps.{Within, After}
-use Rattle.longform.proofs.Trees.{runAll, Covered, proved, tree-runs}
-use Rattle.longform.proofs.Bytes.{good-text, first, stand, over-stays, labels-run}
-use Rattle.longform.proofs.Numbering.{NamedBy, named-by, run-named}
+use Rattle.postorder.specs.LongForm.{postOrder, joined, longText}
+use Rattle.postorder.proofs.Comes.{Lacks, Comes, comes}
+use Rattle.postorder.proofs.OneText.{Numbered, derivation-numbered}
+use Rattle.postorder.proofs.Few.{Once, none, all-once}
+use Rattle.postorder.proofs.Entries.{plain}
+use Rattle.postorder.proofs.Steps.{Within, After}
+use Rattle.postorder.proofs.Trees.{runAll, Covered, proved, tree-runs}
+use Rattle.postorder.proofs.Bytes.{good-text, first, stand, over-stays, labels-run}
+use Rattle.postorder.proofs.Numbering.{NamedBy, named-by, run-named}
 
 -- the answer to a long form: accepted with this tree, or a lack of room
 pub data Again (tree : Tree) : Answer → Type 0 where

@@ -25,15 +25,15 @@ use Rattle.machine.specs.Promise.{Proves, Counted, all-steps}
 use Rattle.machine.proofs.Acceptance.{there-is, accepted-derives}
 use Rattle.machine.proofs.Numbers.{refusal-number}
 use Rattle.machine.proofs.Counts.{answer-counted}
-use Rattle.longform.specs.LongForm.{longText, fits, mostBytes, nothingWritten, written, LongAnswer, longOf, longAnswer, withProof, entriesFor}
-use Rattle.longform.specs.SameBut.{SameBut}
-use Rattle.longform.proofs.Sizes.{fits-exactly}
-use Rattle.longform.proofs.Comes.{pool-full, stack-full}
-use Rattle.longform.proofs.Numbering.{NamedBy, named-by, run-named}
-use Rattle.longform.proofs.Again.{Again, again, lacking, start-few, derivation-again}
-use Rattle.longform.proofs.Answers.{zero-written, one-long-form}
-use Rattle.longform.proofs.NewFile.{stays-good, same-but}
-use Rattle.longform.proofs.SameGround.{expression-same, first-same, text-same, covered-same, derives-same}
+use Rattle.postorder.specs.LongForm.{longText, fits, mostBytes, nothingWritten, written, LongAnswer, longOf, longAnswer, withProof, entriesFor}
+use Rattle.postorder.specs.SameBut.{SameBut}
+use Rattle.postorder.proofs.Sizes.{fits-exactly}
+use Rattle.postorder.proofs.Comes.{pool-full, stack-full}
+use Rattle.postorder.proofs.Numbering.{NamedBy, named-by, run-named}
+use Rattle.postorder.proofs.Again.{Again, again, lacking, start-few, derivation-again}
+use Rattle.postorder.proofs.Answers.{zero-written, one-long-form}
+use Rattle.postorder.proofs.NewFile.{stays-good, same-but}
+use Rattle.postorder.proofs.SameGround.{expression-same, first-same, text-same, covered-same, derives-same}
 
 -- what an acceptance says: the file is good, the statement is a $p, and its proof was run
 record Ran (file : List ℕ) (p : ℕ) (room : Room) (a : Answer) : Type 0 where

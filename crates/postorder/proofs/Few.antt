@@ -13,7 +13,7 @@ use Rattle.frames.proofs.Tells.{true-not-false}
 use Rattle.machine.specs.Ground.{among}
 use Rattle.machine.specs.Prepare.{numbered}
 use Rattle.machine.specs.Run.{allNumbered}
-use Rattle.longform.proofs.KeptPairs.{any-of, among-member}
+use Rattle.postorder.proofs.KeptPairs.{any-of, among-member}
 
 -- no member stands twice
 pub data Once : List ℕ → Type 0 where

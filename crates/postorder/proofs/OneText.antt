@@ -10,8 +10,8 @@ use Rattle.frames.specs.Facts.{_∈_, LabelByte, small, capital, digit, hyphen,
 use Rattle.machine.specs.Ground.{ground}
 use Rattle.machine.specs.Apply.{labelOf}
 use Rattle.machine.proofs.Every.{Every, none, also, every-append}
-use Rattle.longform.specs.LongForm.{postOrder, postOrders, following, joined, longText}
-use Rattle.longform.proofs.OneReading.{one-derivation}
+use Rattle.postorder.specs.LongForm.{postOrder, postOrders, following, joined, longText}
+use Rattle.postorder.proofs.OneReading.{one-derivation}
 
 -- a label byte is no space
 pub no-space : {b : ℕ} → LabelByte b → b ≡ 32 → ⊥

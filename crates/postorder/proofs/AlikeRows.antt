@@ -13,7 +13,7 @@ use Rattle.frames.specs.declared.Fault.the-variants.{Fine}
 use Rattle.frames.proofs.Chains.{below-no, below-true, below-false, one-later, one-last, unless-skip, equal-true}
 use Rattle.frames.proofs.Loops.{getD-past}
 use Rattle.frames.proofs.Fine.{Faultless}
-use Rattle.longform.proofs.Alike.{Alike, length-alike, kind-alike, hyp-count-alike, pair-count-alike, listed-count-alike, hyps-alike, pairs-alike, symbols-alike, lists-inside, rest-size-alike, rest-alike, scope-alike, class-alike}
+use Rattle.postorder.proofs.Alike.{Alike, length-alike, kind-alike, hyp-count-alike, pair-count-alike, listed-count-alike, hyps-alike, pairs-alike, symbols-alike, lists-inside, rest-size-alike, rest-alike, scope-alike, class-alike}
 
 -- the members of two lists are related, one by one
 pub data Both (R : ℕ → ℕ → Type 0) : List ℕ → List ℕ → Type 0 where

@@ -5,7 +5,7 @@ use Prim.Native.String.{String}
 use mathlib.Core.List.{List, [], _∷_, _++_}
 use Rattle.machine.specs.Files.{bytes, forever, float, essential, assertion, proof, greatest}
 use Rattle.machine.specs.BenchTable.{symbols, varP, varQ, implies, wff, proves, benchFile, first1, first2}
-use Rattle.longform.specs.LongForm.{LongAnswer, longAnswer, withProof}
+use Rattle.postorder.specs.LongForm.{LongAnswer, longAnswer, withProof}
 
 -- an example: the file, the statement asked for, the tree entries and output bytes lent, and number, place, steps and text
 pub record LongRow : Type 0 where

@@ -19,14 +19,14 @@ use Rattle.frames.proofs.Fine.{record-well-formed}
 use Rattle.facts.proofs.Decoded.{database-symbols, database-statements, database-symbol, database-statement}
 use Rattle.facts.proofs.GoodFacts.{good-file-facts}
 use Rattle.facts.proofs.Unique.{good-file}
-use Rattle.longform.specs.LongForm.{proofFrom, withProof}
-use Rattle.longform.specs.SameBut.{SameSymbol, SameStatement, SameBut}
-use Rattle.longform.proofs.Alike.{Alike, kind-alike, hyps-alike, pairs-alike, symbols-alike, rest-alike, scope-alike, class-alike}
-use Rattle.longform.proofs.AlikeRows.{none, both-length, both-at}
-use Rattle.longform.proofs.Replaced.{replacing, alike-before, new-text}
-use Rattle.longform.proofs.Ahead.{walk-steps}
-use Rattle.longform.proofs.Moves.{Place, ProofMoved, the-new, the-same, StatementMoved, IndexMoved, before, Moved, before-next, walk-moves, next-later}
-use Rattle.longform.proofs.InRow.{in-row}
+use Rattle.postorder.specs.LongForm.{proofFrom, withProof}
+use Rattle.postorder.specs.SameBut.{SameSymbol, SameStatement, SameBut}
+use Rattle.postorder.proofs.Alike.{Alike, kind-alike, hyps-alike, pairs-alike, symbols-alike, rest-alike, scope-alike, class-alike}
+use Rattle.postorder.proofs.AlikeRows.{none, both-length, both-at}
+use Rattle.postorder.proofs.Replaced.{replacing, alike-before, new-text}
+use Rattle.postorder.proofs.Ahead.{walk-steps}
+use Rattle.postorder.proofs.Moves.{Place, ProofMoved, the-new, the-same, StatementMoved, IndexMoved, before, Moved, before-next, walk-moves, next-later}
+use Rattle.postorder.proofs.InRow.{in-row}
 
 -- the outcome of a file that is not too long is that of its walk
 whole-walk : (f : List ℕ) → length f ≤ 1048576 → outcome f ≡ walk (suc (length f)) f nothing 0

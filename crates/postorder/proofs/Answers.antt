@@ -18,9 +18,9 @@ use Rattle.machine.specs.Bench.{ended, answer}
 use Rattle.machine.specs.Promise.{Proves}
 use Rattle.machine.proofs.Numbers.{refusal-number, file-number}
 use Rattle.machine.proofs.Acceptance.{accepted-derives}
-use Rattle.longform.specs.LongForm.{longText, fits, LongAnswer, nothingWritten, written, entriesFor, mostBytes, longOf, longAnswer}
-use Rattle.longform.proofs.Sizes.{fits-exactly}
-use Rattle.longform.proofs.Again.{Again, again, lacking, accepted-again}
+use Rattle.postorder.specs.LongForm.{longText, fits, LongAnswer, nothingWritten, written, entriesFor, mostBytes, longOf, longAnswer}
+use Rattle.postorder.proofs.Sizes.{fits-exactly}
+use Rattle.postorder.proofs.Again.{Again, again, lacking, accepted-again}
 
 -- the proof's own refusal, or 1 to 8, with its place and steps
 pub refusal-answered : (db : Database) (entries output : ℕ) (a : Answer) → (number a ≡ 0 → ⊥)

@@ -19,7 +19,7 @@ use Rattle.machine.specs.Ground.{isVariable, isFloat, expression, expressionOf}
 use Rattle.machine.specs.Memory.{Proved}
 use Rattle.machine.specs.Apply.{bound, checkHyp, checkHyps}
 use Rattle.machine.proofs.Bound.{Paired, here, there, float-image, float-under, same-expression}
-use Rattle.longform.proofs.Comes.{Comes, unless-not}
+use Rattle.postorder.proofs.Comes.{Comes, unless-not}
 
 pub float-yes : (st : Statement) → st .kind ≡ 2 → isFloat st ≡ true
 unfolding isFloat

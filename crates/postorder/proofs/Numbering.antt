@@ -29,10 +29,10 @@ use Rattle.machine.proofs.Every.{Every, none, also, every-take, every-drop, eve
 use Rattle.machine.proofs.Applied.{marks-give}
 use Rattle.machine.proofs.Acceptance.{unfinished-gives}
 use Rattle.machine.proofs.Follow.{Followed, followed}
-use Rattle.longform.specs.LongForm.{postOrder, postOrders}
-use Rattle.longform.proofs.Few.{numbers}
-use Rattle.longform.proofs.Trees.{Covered}
-use Rattle.longform.proofs.Arranged.{OfEntry, unmarked-has, arranged-has}
+use Rattle.postorder.specs.LongForm.{postOrder, postOrders}
+use Rattle.postorder.proofs.Few.{numbers}
+use Rattle.postorder.proofs.Trees.{Covered}
+use Rattle.postorder.proofs.Arranged.{OfEntry, unmarked-has, arranged-has}
 
 every-map : {A : Type 0} {P Q : A → Type 0} {xs : List A} → ((x : A) → P x → Q x) → Every P xs → Every Q xs
 every-map f none = none

@@ -22,13 +22,13 @@ use Rattle.machine.specs.Memory.{Room, Proved, recalls, applies, Entry, Memory,
 use Rattle.machine.specs.Prepare.{numbered, numberedBy, Ready, ready, spend, leafOf, prepareHypothesis, prepareStatement, prepareNormal}
 use Rattle.machine.specs.Apply.{labelOf, checkMarks, bound, forest, conclusion, conclude, applyAssertion, assignEntries, runPrepared, runReady}
 use Rattle.machine.proofs.Bound.{float-kind}
-use Rattle.longform.proofs.Comes.{pool-full, stack-full, Comes, comes, unless-not, unless-lacks, bind-comes, pick-yes, pick-not}
-use Rattle.longform.proofs.OneReading.{supposes-yes}
-use Rattle.longform.proofs.Naming.{Nameable, prepared-itself}
-use Rattle.longform.proofs.Agree.{Matched, matched-length, float-same, claim-same, essential-same, hyps-pass}
-use Rattle.longform.proofs.KeptPairs.{either-yes, pairs-pass}
-use Rattle.longform.proofs.Few.{Once, numbers, no-more}
-use Rattle.longform.proofs.Entries.{plain, stacked, stacked-length, top-entries, below-entries, no-marks, all-unmarked, in-order}
+use Rattle.postorder.proofs.Comes.{pool-full, stack-full, Comes, comes, unless-not, unless-lacks, bind-comes, pick-yes, pick-not}
+use Rattle.postorder.proofs.OneReading.{supposes-yes}
+use Rattle.postorder.proofs.Naming.{Nameable, prepared-itself}
+use Rattle.postorder.proofs.Agree.{Matched, matched-length, float-same, claim-same, essential-same, hyps-pass}
+use Rattle.postorder.proofs.KeptPairs.{either-yes, pairs-pass}
+use Rattle.postorder.proofs.Few.{Once, numbers, no-more}
+use Rattle.postorder.proofs.Entries.{plain, stacked, stacked-length, top-entries, below-entries, no-marks, all-unmarked, in-order}
 
 -- one label as a step of a normal proof
 unfoldable pub stepOf : Database → ℕ → Room → ℕ → Memory → Result Memory

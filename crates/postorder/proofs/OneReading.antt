@@ -14,7 +14,7 @@ use Rattle.frames.specs.Database.{Database}
 use Rattle.frames.specs.Facts.{statementOf}
 use Rattle.frames.proofs.Chains.{either-first, either-second, equal-yes, equal-no}
 use Rattle.machine.specs.Ground.{ground, frameOf, expressionOf}
-use Rattle.longform.specs.LongForm.{postOrder, postOrders}
+use Rattle.postorder.specs.LongForm.{postOrder, postOrders}
 
 -- the kinds of hypotheses and of assertions, as tests
 pub supposes-yes : (k : ℕ) → (k ≡ 2) ⊎ (k ≡ 3) → supposes k ≡ true

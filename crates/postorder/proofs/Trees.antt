@@ -14,12 +14,12 @@ use Rattle.machine.specs.Ground.{isVariable, isFloat, expressionOf, framePairs,
 use Rattle.machine.specs.Memory.{Room, Proved, Entry, Memory}
 use Rattle.machine.specs.Prepare.{leafOf}
 use Rattle.machine.specs.Apply.{forest}
-use Rattle.longform.specs.LongForm.{postOrder, postOrders}
-use Rattle.longform.proofs.Comes.{Comes, comes, lacks, bind-comes, bind-parts}
-use Rattle.longform.proofs.OneReading.{supposes-no}
-use Rattle.longform.proofs.Agree.{matched-of}
-use Rattle.longform.proofs.Entries.{stacked}
-use Rattle.longform.proofs.Steps.{stepOf, Within, nodeOf, After, applied-nameable, leaf-step, node-step}
+use Rattle.postorder.specs.LongForm.{postOrder, postOrders}
+use Rattle.postorder.proofs.Comes.{Comes, comes, lacks, bind-comes, bind-parts}
+use Rattle.postorder.proofs.OneReading.{supposes-no}
+use Rattle.postorder.proofs.Agree.{matched-of}
+use Rattle.postorder.proofs.Entries.{stacked}
+use Rattle.postorder.proofs.Steps.{stepOf, Within, nodeOf, After, applied-nameable, leaf-step, node-step}
 
 -- labels one after another
 unfoldable pub runAll : Database → ℕ → Room → List ℕ → Memory → Result Memory

@@ -9,9 +9,9 @@ use Rattle.machine.specs.Ground.{isVariable, isFloat, expression, expressionOf,
 use Rattle.machine.specs.Apply.{labelOf}
 use Rattle.machine.specs.Run.{firstVariables}
 use Rattle.machine.proofs.Bound.{same-expression}
-use Rattle.longform.specs.LongForm.{postOrder, following, joined, longText}
-use Rattle.longform.specs.SameBut.{SameBut}
-use Rattle.longform.proofs.Trees.{Covered}
+use Rattle.postorder.specs.LongForm.{postOrder, following, joined, longText}
+use Rattle.postorder.specs.SameBut.{SameBut}
+use Rattle.postorder.proofs.Trees.{Covered}
 
 module _ (db db′ : Database) (p : ℕ) (text : List ℕ) (same : SameBut db db′ p text) where
   variable-same : (s : ℕ) → isVariable db′ s ≡ isVariable db s

@@ -15,7 +15,7 @@ use Rattle.frames.specs.declared.Fault.the-variants.{Fine}
 use Rattle.frames.proofs.Chains.{below-no, one-later, one-last, unless-skip}
 use Rattle.frames.proofs.Fine.{WellFormed}
 use Rattle.machine.specs.Files.{two, four, recordOf, proof}
-use Rattle.longform.proofs.Alike.{Alike}
+use Rattle.postorder.proofs.Alike.{Alike}
 
 -- the file with the bytes from q to r replaced by the proof record of this text
 unfoldable pub replacing : List ℕ → ℕ → ℕ → List ℕ → List ℕ

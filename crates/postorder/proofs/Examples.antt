@@ -20,8 +20,8 @@ use Rattle.machine.specs.Run.{settle, goOn, stepAt, onLetter, afterStep, onPart
 use Rattle.machine.specs.Bench.{ended, answerGood, judged, answer}
 use Rattle.machine.specs.Files.{bytes, two, four, forever, each, eachPair, recordOf, constant as constant·Files, variable as variable·Files, float, essential, assertion, proof, greatest, told, answered, stated}
 use Rattle.machine.specs.BenchTable.{symbols, varP, varQ, implies, wff, proves, benchFile, first1, first2, th1Pool, th1, th2, starred, unstarred, further, repeated, roster, numbers}
-use Rattle.longform.specs.LongForm.{following, joined, longText, labelSize, textLength, lessBy, andThen, fits, nothingWritten, written, entriesFor, mostBytes, longOf, longAnswer, proofFrom, withProof, postOrder, treeSize, spare}
-use Rattle.longform.specs.LongTable.{longTold, longAnswered, longStated, long1, long2, twice, nested, doubled, limits, refusals, shapes, manyLetters, huge}
+use Rattle.postorder.specs.LongForm.{following, joined, longText, labelSize, textLength, lessBy, andThen, fits, nothingWritten, written, entriesFor, mostBytes, longOf, longAnswer, proofFrom, withProof, postOrder, treeSize, spare}
+use Rattle.postorder.specs.LongTable.{longTold, longAnswered, longStated, long1, long2, twice, nested, doubled, limits, refusals, shapes, manyLetters, huge}
 
 -- tree entries and output: just enough, and one short
 pub limits-hold : map longAnswered limits ≡ map longStated limits

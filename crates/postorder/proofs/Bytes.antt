@@ -21,12 +21,12 @@ use Rattle.machine.specs.Apply.{labelOf}
 use Rattle.machine.specs.Run.{Mode, beginning, normal, Standing, State, going, over, settle, goOn, afterStep, onParts, onNormal, onToken, endToken, onPlain, byMode, onByte, onBytes, finish, onEnd}
 use Rattle.machine.proofs.Gives.{Stands, goes, ends}
 use Rattle.machine.proofs.Every.{Every, none, also}
-use Rattle.longform.specs.LongForm.{following, joined}
-use Rattle.longform.proofs.Comes.{Lacks, Comes, comes, lacks, bind-parts}
-use Rattle.longform.proofs.OneText.{Numbered, label-bytes, label-some}
-use Rattle.longform.proofs.Naming.{not-byte, not-sign, split-label}
-use Rattle.longform.proofs.Steps.{stepOf}
-use Rattle.longform.proofs.Trees.{runAll}
+use Rattle.postorder.specs.LongForm.{following, joined}
+use Rattle.postorder.proofs.Comes.{Lacks, Comes, comes, lacks, bind-parts}
+use Rattle.postorder.proofs.OneText.{Numbered, label-bytes, label-some}
+use Rattle.postorder.proofs.Naming.{not-byte, not-sign, split-label}
+use Rattle.postorder.proofs.Steps.{stepOf}
+use Rattle.postorder.proofs.Trees.{runAll}
 
 -- a label byte divides no tokens, and it is a name byte
 no-divider : {b : ℕ} → LabelByte b → divider b ≡ false

@@ -12,7 +12,7 @@ use Rattle.frames.specs.Verdict.{Index, nothing, after, index}
 use Rattle.frames.specs.Database.{GoodFile}
 use Rattle.frames.proofs.Chains.{below-true, below-false}
 use Rattle.facts.proofs.Kept.{good-keeps}
-use Rattle.longform.proofs.Moves.{next-later}
+use Rattle.postorder.proofs.Moves.{next-later}
 
 -- records of statements lie one after another
 record InRow (f : List ℕ) (ix : Index) (o : ℕ) : Type 0 where

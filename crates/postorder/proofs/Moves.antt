@@ -15,10 +15,10 @@ use Rattle.frames.specs.declared.Verdict.the-variants.{Good}
 use Rattle.frames.proofs.Chains.{atMost-no, atMost-yes, below-true, below-false, equal-yes, equal-true}
 use Rattle.frames.proofs.Fine.{Faultless, record-well-formed}
 use Rattle.facts.proofs.Kept.{refused-not-good}
-use Rattle.longform.proofs.Alike.{Alike, length-alike, kind-alike}
-use Rattle.longform.proofs.AlikeRows.{Both, none, also, both-more, AlikeSymbol, fine-alike}
-use Rattle.longform.proofs.Replaced.{replacing, new-length, alike-before, alike-after, new-kind, new-next, new-fine}
-use Rattle.longform.proofs.Ahead.{Beyond, beyond-walk, walk-steps}
+use Rattle.postorder.proofs.Alike.{Alike, length-alike, kind-alike}
+use Rattle.postorder.proofs.AlikeRows.{Both, none, also, both-more, AlikeSymbol, fine-alike}
+use Rattle.postorder.proofs.Replaced.{replacing, new-length, alike-before, alike-after, new-kind, new-next, new-fine}
+use Rattle.postorder.proofs.Ahead.{Beyond, beyond-walk, walk-steps}
 
 both-map : {R S : ℕ → ℕ → Type 0} {xs ys : List ℕ} → ((x y : ℕ) → R x y → S x y) → Both R xs ys → Both S xs ys
 both-map f none = none

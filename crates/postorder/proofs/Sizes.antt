@@ -12,7 +12,7 @@ use Rattle.frames.specs.Database.{Database}
 use Rattle.frames.proofs.Chains.{atMost-true, atMost-false, atMost-yes, atMost-no}
 use Rattle.machine.specs.Memory.{isSome}
 use Rattle.machine.specs.Apply.{labelOf}
-use Rattle.longform.specs.LongForm.{postOrder, postOrders, following, joined, longText, labelSize, treeSize, forestSize, textLength, lessBy, andThen, spare, spares, fits}
+use Rattle.postorder.specs.LongForm.{postOrder, postOrders, following, joined, longText, labelSize, treeSize, forestSize, textLength, lessBy, andThen, spare, spares, fits}
 
 module _ (db : Database) where
   following-append : (xs ys : List ℕ) → length (following db (xs ++ ys)) ≡ length (following db xs) + length (following db ys)

@@ -24,8 +24,8 @@ use Rattle.machine.specs.Prepare.{Ready, prepareHypothesis, prepareStatement, p
 use Rattle.machine.specs.Apply.{checkMarks, checkHyp, checkHyps, conclude, applyAssertion, assignEntries, runPrepared, runReady}
 use Rattle.machine.specs.Run.{Mode, beginning, normal, inRoster, inLetters, State, going, over, settle, stepAt, onLetter, afterStep, onParts, onNormal, onToken, endToken, onPlain, byMode, onByte, onBytes, onEnd, run}
 use Rattle.machine.specs.Bench.{ended, answerGood, judged, answer}
-use Rattle.longform.specs.LongForm.{longText, LongAnswer, longOf, longAnswer}
-use Rattle.longform.proofs.Answers.{zero-written}
+use Rattle.postorder.specs.LongForm.{longText, LongAnswer, longOf, longAnswer}
+use Rattle.postorder.proofs.Answers.{zero-written}
 
 -- two chains give the same, unless one of them stops
 data InStep {A : Type 0} : Result A → Result A → Type 0 where
