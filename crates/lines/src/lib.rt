@@ -21,7 +21,7 @@ fn put_text(out: &mut [u8], at: usize, text: &[u8])
 }
 
 // Adds a text at `at`, if there is room.
-fn add_text(out: &mut [u8], at: usize, text: &[u8]) -> Grown
+pub fn add_text(out: &mut [u8], at: usize, text: &[u8]) -> Grown
     ensures { λ r. ⌜ Adds (now (text .entry)) at (length (now (out .entry))) (now (out .entry)) (now (out .exit)) r ⌝ }
 {
     let limit = out.len();
@@ -37,7 +37,7 @@ fn add_text(out: &mut [u8], at: usize, text: &[u8]) -> Grown
 }
 
 // Adds a text after what is there so far.
-fn then_text(out: &mut [u8], done: Grown, text: &[u8]) -> Grown
+pub fn then_text(out: &mut [u8], done: Grown, text: &[u8]) -> Grown
     ensures { λ r. ⌜ Extends (andThen (now (text .entry))) (now (out .entry)) done (now (out .exit)) r ⌝ }
 {
     match done {
@@ -47,7 +47,7 @@ fn then_text(out: &mut [u8], done: Grown, text: &[u8]) -> Grown
 }
 
 // Adds the digits of a number after what is there so far.
-fn then_number(out: &mut [u8], done: Grown, n: usize) -> Grown
+pub fn then_number(out: &mut [u8], done: Grown, n: usize) -> Grown
     ensures { λ r. ⌜ Extends (andThen (decimal n)) (now (out .entry)) done (now (out .exit)) r ⌝ }
 {
     let mut digits = [0u8; 20];
@@ -56,7 +56,7 @@ fn then_number(out: &mut [u8], done: Grown, n: usize) -> Grown
 }
 
 // Ends a line with two numbers.
-fn then_two(out: &mut [u8], done: Grown, a: usize, b: usize) -> Grown
+pub fn then_two(out: &mut [u8], done: Grown, a: usize, b: usize) -> Grown
     ensures { λ r. ⌜ Extends (andTwo a b) (now (out .entry)) done (now (out .exit)) r ⌝ }
 {
     let first = then_number(out, done, a);

@@ -23,7 +23,7 @@ pub mod proving;
 pub mod writing;
 
 // Statement p of a checked file: 8 where it is no $p or there is none, else the long form of its proof.
-fn long_statement(
+pub fn long_statement(
     file: &[u8],
     symbols: &[u32],
     statements: &[u32],

@@ -35,14 +35,14 @@ digits-few (suc k) n = by (ltb n 10) (digits-few k (n / 10))
     by false few = let l = length-append (digitsOf k (n / 10)) ((48 + n % 10) ∷ []) in omega arith
 
 -- a text with the digits of a number and a byte after it
-then-few : (text : List ℕ) (n b : ℕ) → length ((text ++ decimal n) ++ (b ∷ [])) ≤ length text + 21
+pub then-few : (text : List ℕ) (n b : ℕ) → length ((text ++ decimal n) ++ (b ∷ [])) ≤ length text + 21
 then-few text n b =
     let d = digits-few 20 n in
     let l = length-append text (decimal n) in
     let m = length-append (text ++ decimal n) (b ∷ []) in
     omega arith
 
-line-few : (word : List ℕ) (a b : ℕ) → length (line word a b) ≤ length word + 42
+pub line-few : (word : List ℕ) (a b : ℕ) → length (line word a b) ≤ length word + 42
 line-few word a b =
     let first = then-few word a 32 in
     let second = then-few ((word ++ decimal a) ++ (32 ∷ [])) b 10 in
@@ -74,7 +74,7 @@ provable-few db (suc k) n = by (equal (statementOf db n .kind) 5) (provable-few 
     by false few = omega arith
 
 module _ (f : List ℕ) (good : GoodFile f) where
-  label-few : (p : ℕ) → length (statementOf (database f) p .label) ≤ 64
+  pub label-few : (p : ℕ) → length (statementOf (database f) p .label) ≤ 64
   unfolding statementOf
   label-few p = by (below p (length (database f .statements))) refl
     where

@@ -33,7 +33,7 @@ module _ (f : List ℕ) (p : ℕ) {word : ℕ} (is : word ≡ answerWord f great
   steps-read = let s = answer-small f p greatest in ap stepsIn word-packed ∙ steps-back _ _ _ (s .number-small) (s .place-small)
 
 module _ {f stmts : List ℕ} (w : Listed f stmts) (p : ℕ) (there : p < length stmts) where
-  statement-is : {at : ℕ} → at ≡ getD stmts p 0 → statementAt f at ≡ statementOf (database f) p
+  pub statement-is : {at : ℕ} → at ≡ getD stmts p 0 → statementAt f at ≡ statementOf (database f) p
   statement-is e = ap (statementAt f) e ∙ filed-statement w p (omega (arith, filed-length w))
 
   pub kind-is : {at k : ℕ} → at ≡ getD stmts p 0 → k ≡ statementAt f at .kind → k ≡ statementOf (database f) p .kind

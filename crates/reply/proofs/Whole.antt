@@ -39,7 +39,7 @@ pub counted-none : {walked : Walked} {why : Refusal} {at : ℕ} → walked ≡ R
 counted-none {walked} {why} {at} is = record { is = λ m e. let z : _≡_ {A = ℕ} 0 1 = cc in absurd (omega arith) }
 
 -- the lent buffers have the greatest sizes
-room-greatest : (pool stack places : List ℕ) → length pool ≡ 65536 → length stack ≡ 10240 → length places ≡ 40960 → roomIn pool stack places ≡ greatest
+pub room-greatest : (pool stack places : List ℕ) → length pool ≡ 65536 → length stack ≡ 10240 → length places ≡ 40960 → roomIn pool stack places ≡ greatest
 unfolding roomLent greatest
 room-greatest pool stack places p s q = rw (p, s, q) refl
 
@@ -92,19 +92,24 @@ written-front : (xs out : List ℕ) → take (length xs) (written xs 0 out) ≡ 
 unfolding written
 written-front xs out = take-append-seam xs (drop (0 + length xs) out)
 
+-- a text for which there is room stands at the start
+module _ (text : List ℕ) {out out′ : List ℕ} {r : Grown} (a : Adds text 0 (length out) out out′ r) (few : length text ≤ length out) where
+  pub stands-to : {n : ℕ} → r ≡ To n → Counts n out′ × (take n out′ ≡ text)
+  stands-to {n} is =
+      let said = grown-of-to (length text) 0 (length out) n (sym is ∙ a .answers) in
+      let same = a .sized in
+      let there : out′ ≡ written text 0 out = a .holds (below-no (omega arith)) in
+      let many : n ≡ length text = omega arith in
+      let within : n ≤ length out′ = omega arith in
+      ((within, sym (length-take-le n out′ within)), rw (there, many) (written-front text out))
+
+  pub stands-full : r ≡ Full → Counts 0 out′ × (take 0 out′ ≡ text)
+  stands-full is = let over = grown-of-full (length text) 0 (length out) (sym is ∙ a .answers) in absurd (omega arith)
+
 -- there is always room
 module _ (input : List ℕ) {out out′ : List ℕ} {r : Grown} (a : Adds (outputOf input) 0 (length out) out out′ r) (size : 524352 ≤ length out) where
   pub replies-to : {n : ℕ} → r ≡ To n → Counts n out′ × (take n out′ ≡ outputOf input)
-  replies-to {n} is =
-      let said = grown-of-to (length (outputOf input)) 0 (length out) n (sym is ∙ a .answers) in
-      let same = a .sized in
-      let there : out′ ≡ written (outputOf input) 0 out = a .holds (below-no (omega arith)) in
-      let many : n ≡ length (outputOf input) = omega arith in
-      let within : n ≤ length out′ = omega arith in
-      ((within, sym (length-take-le n out′ within)), rw (there, many) (written-front (outputOf input) out))
+  replies-to is = stands-to (outputOf input) a (omega (arith, output-few input)) is
 
   pub replies-full : r ≡ Full → Counts 0 out′ × (take 0 out′ ≡ outputOf input)
-  replies-full is =
-      let over = grown-of-full (length (outputOf input)) 0 (length out) (sym is ∙ a .answers) in
-      let few = output-few input in
-      absurd (omega arith)
+  replies-full is = stands-full (outputOf input) a (omega (arith, output-few input)) is

@@ -31,28 +31,28 @@ use walk::Walked;
 use walk::verify_all;
 
 // Room for one byte more than the program takes, so that a longer input is seen.
-fn input_room() -> [u8; 65537]
+pub fn input_room() -> [u8; 65537]
     ensures { λ r. ⌜ length r ≡ 65537 ⌝ }
 {
     [0; 65537]
 }
 
 // The greatest pool.
-fn pool_room() -> [u8; 65536]
+pub fn pool_room() -> [u8; 65536]
     ensures { λ r. ⌜ length r ≡ 65536 ⌝ }
 {
     [0; 65536]
 }
 
 // The greatest stack: 1,024 entries of ten words.
-fn stack_room() -> [u64; 10240]
+pub fn stack_room() -> [u64; 10240]
     ensures { λ r. ⌜ length r ≡ 10240 ⌝ }
 {
     [0; 10240]
 }
 
 // The most places: 4,096 of ten words.
-fn places_room() -> [u64; 40960]
+pub fn places_room() -> [u64; 40960]
     ensures { λ r. ⌜ length r ≡ 40960 ⌝ }
 {
     [0; 40960]
@@ -73,7 +73,7 @@ fn page() -> [u8; 524352]
 }
 
 // Statement p is a $p.
-fn is_provable(file: &[u8], statements: &[u32], p: StatementNo) -> bool
+pub fn is_provable(file: &[u8], statements: &[u32], p: StatementNo) -> bool
     requires { ⌜ Listed (now file) (now statements) × (p .0 < length (now statements)) ⌝ }
     ensures { λ r. ⌜ r ≡ equal (statementOf (database (now (file .entry))) (p .0) .kind) 5 ⌝ }
 {
