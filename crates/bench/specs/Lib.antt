@@ -1,3 +1,2 @@
 -- What the calls answer.
-pub mod Ours
 pub mod Calls

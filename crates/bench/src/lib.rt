@@ -7,58 +7,20 @@ ghost use Rattle.machine.specs.Bench.{answer, answerGood};
 ghost use Rattle.resolve.specs.Filed.{Filed};
 ghost use Rattle.told.specs.Says.{Says, roomLent};
 ghost use Rattle.bench.specs.Calls.{Verified};
-use crate::statement::answer_statement;
 use clearing::clear_bytes;
 use clearing::clear_words64;
 use filecheck::check;
 use frames::Verdict;
 use frames::numbers::StatementNo;
 use label_index::fill;
+use proving::hypothesis_seats;
+use proving::image_sets;
+use proving::label_words;
+use proving::local_labels;
+use proving::offsets;
+use proving::pair_sets;
+use proving::statement::answer_statement;
 use told::Told;
-
-pub mod statement;
-
-// Room for the offsets of an index, or for the numbers or the images of all symbols.
-pub fn offsets() -> [u32; 4096]
-    ensures { λ r. ⌜ length r ≡ 4096 ⌝ }
-{
-    [0; 4096]
-}
-
-// Room for the disjoint pairs: 256 sets.
-pub fn pair_sets() -> [u64; 1024]
-    ensures { λ r. ⌜ length r ≡ 1024 ⌝ }
-{
-    [0; 1024]
-}
-
-// Room for the sets of the images of all symbols.
-pub fn image_sets() -> [u64; 16384]
-    ensures { λ r. ⌜ length r ≡ 16384 ⌝ }
-{
-    [0; 16384]
-}
-
-// Room for 4,096 local labels.
-pub fn local_labels() -> [u32; 12288]
-    ensures { λ r. ⌜ length r ≡ 12288 ⌝ }
-{
-    [0; 12288]
-}
-
-// Room for the index of labels.
-pub fn label_words() -> [u32; 12288]
-    ensures { λ r. ⌜ length r ≡ 12288 ⌝ }
-{
-    [0; 12288]
-}
-
-// Room for the seats of 64 hypotheses.
-pub fn hypothesis_seats() -> [u32; 64]
-    ensures { λ r. ⌜ length r ≡ 64 ⌝ }
-{
-    [0; 64]
-}
 
 // One statement of a checked file, with tables of our own.
 fn verify_checked(

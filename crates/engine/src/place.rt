@@ -86,3 +86,56 @@ pub fn run_place(
         end,
     )
 }
+
+// The step at place k, with no mark: 31, 32 to 38, 43, 45. The letters have this function to themselves, so that it is compiled into the loop over them.
+pub fn run_unmarked(
+    file: &[u8],
+    symbols: &[u32],
+    statements: &[u32],
+    text: &[u8],
+    table: &[u64],
+    seats: &mut [u32],
+    froms: &mut [u32],
+    tos: &mut [u32],
+    sets: &mut [u64],
+    pool: &mut [u8],
+    stack: &mut [u64],
+    tree: &mut [u64],
+    places: &[u64],
+    k: PlaceNo,
+    c: Counts,
+    limits: Limits,
+) -> Outcome
+    requires { ⌜ ((c .used ≤ limits .pool) × (limits .pool ≤ length (now pool))) × ((10 * limits .stack ≤ length (now stack)) × (limits .stack ≤ 1024)) ⌝ }
+    requires ranged { ⌜ ((Ranged (now froms) (now tos) (c .used) × (length (now froms) ≤ length (now tos))) × ((c .used < 4294967296) × ((c .depth ≤ 1024) × (64 ≤ length (now seats))))) × (c .places ≤ 4096) ⌝ }
+    requires recorded { ⌜ length (now tree) ≤ 131072 ⌝ }
+    ensures { λ r. ⌜ RunsPlace (now (file .entry)) (now (symbols .entry)) (now (statements .entry)) (now (text .entry)) (now (table .entry)) (now (froms .entry)) (now (tos .entry)) (now (sets .entry)) (now (pool .entry)) (now (stack .entry)) (now (tree .entry)) (now (places .entry)) (k .0) c limits 0 0 (now (froms .exit)) (now (tos .exit)) (now (sets .exit)) (now (pool .exit)) (now (stack .exit)) (now (tree .exit)) r ⌝ }
+{
+    let n = k.0;
+    if c.places <= n {
+        return Outcome::Refused(Refusal::StepOutOfRange);
+    }
+    let row = row_at(places, n);
+    if row.tag == 0 {
+        return push(stack, c, limits.stack, c.depth, marked(row, 0, 0));
+    }
+    execute_step(
+        file,
+        symbols,
+        statements,
+        StatementNo(row.head),
+        text,
+        table,
+        seats,
+        froms,
+        tos,
+        sets,
+        pool,
+        stack,
+        tree,
+        c,
+        limits,
+        0,
+        0,
+    )
+}

@@ -21,7 +21,7 @@ use Rattle.findings.specs.Tells.{Tells}
 use Rattle.postorder.specs.LongForm.{longOf, longAnswer}
 use Rattle.told.specs.declared.Told.{Told}
 use Rattle.told.specs.Says.{Says}
-use Rattle.bench.proofs.Asking.{beyond-says, other-says, text-few, proof-run}
+use Rattle.proving.proofs.Asking.{beyond-says, other-says, text-few, proof-run}
 use Rattle.bench.proofs.Checking.{good-is}
 use Rattle.bench.proofs.Checking as checking
 use Rattle.long.specs.Calls.{SaysLong}

@@ -8,18 +8,17 @@ ghost use Rattle.resolve.specs.Filed.{Filed};
 ghost use Rattle.told.specs.Says.{roomLent};
 ghost use Rattle.postorder.specs.LongForm.{longOf, longAnswer};
 ghost use Rattle.long.specs.Calls.{SaysLong, WritesLongForm};
-use crate::proving::prove_statement;
 use crate::writing::tell_long;
-use bench::offsets;
 use clearing::clear_bytes;
 use clearing::clear_words64;
 use filecheck::check;
 use frames::Verdict;
 use frames::fields;
 use frames::numbers::StatementNo;
+use proving::offsets;
+use proving::statement::prove_statement;
 use told::Told;
 
-pub mod proving;
 pub mod writing;
 
 // Statement p of a checked file: 8 where it is no $p or there is none, else the long form of its proof.

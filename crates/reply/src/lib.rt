@@ -16,7 +16,6 @@ ghost use Rattle.reply.specs.Replies.{Listed, Held, Counted};
 use answers::number_in;
 use answers::place_in;
 use answers::steps_in;
-use bench::offsets;
 use filecheck::check;
 use frames::Verdict;
 use frames::fields;
@@ -27,6 +26,7 @@ use lines::put_answer;
 use lines::put_checked;
 use lines::put_refused;
 use packed::pool::Grown;
+use proving::offsets;
 use walk::Walked;
 use walk::verify_all;
 

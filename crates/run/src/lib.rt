@@ -3,6 +3,8 @@
 use machine::Refusal;
 use memory::Counts;
 
+pub mod letters;
+
 // How the text is read on: no token yet; a normal proof; in the roster; in the letters, with k and whether `Z` may come.
 pub enum Mode {
     Beginning,

@@ -26,7 +26,7 @@ use Rattle.run_bytes.specs.declared.Next.the-variants.{Going, Over}
 use Rattle.run.specs.Running.{Env, Tables, Sized, benchOf, lentOf, widthOf}
 use Rattle.run.specs.Reads as low-as
 use Rattle.run.specs.Reads.{modeOf, Low, Reads, goes, stops, Keeps}
-use Rattle.run_letters.specs.Letters.{ReadsLetter}
+use Rattle.run.specs.Letters.{ReadsLetter}
 use Rattle.run_bytes.specs.Bytes.{Alike, going, over, After, ReadsByte, Plain, beginning, normal, roster}
 
 -- nothing is read of an empty range

@@ -15,7 +15,7 @@ use Rattle.frames.proofs.Chains.{below-true, below-false}
 use Rattle.frames.proofs.Tables.{laid-more, laid-length}
 use Rattle.machine.specs.Memory.{Room}
 use Rattle.bench.specs.Calls.{roomIn}
-use Rattle.bench.specs.Ours.{Ours}
+use Rattle.proving.specs.Ours.{Ours}
 use Rattle.walk.specs.Walk.{provableFrom, provable, answerWord, answerWords, NextAnswered, AllAnswered}
 
 pub record SoFar (f : List ℕ) (room : Room) (answers answers′ : List ℕ) (i count : ℕ) : Type 0 where

@@ -4,18 +4,11 @@ ghost use mathlib.Core.Path.{_≡_};
 ghost use Prim.Native.Nat.{_≤_, _<_};
 ghost use lib.ListN.{length};
 ghost use Rattle.resolve.specs.Filed.{Filed};
-ghost use Rattle.bench.specs.Ours.{Ours};
+ghost use Rattle.proving.specs.Ours.{Ours};
 ghost use Rattle.bench.specs.Calls.{roomIn};
 ghost use Rattle.walk.specs.Walk.{WalksAll, WalksFile, NextAnswered, AllAnswered};
 ghost use Rattle.label_index.specs.Labelled.{Labelled};
 use answers::pack;
-use bench::hypothesis_seats;
-use bench::image_sets;
-use bench::label_words;
-use bench::local_labels;
-use bench::offsets;
-use bench::pair_sets;
-use bench::statement::answer_statement;
 use clearing::clear_bytes;
 use clearing::clear_words64;
 use filecheck::check;
@@ -24,6 +17,13 @@ use frames::Verdict;
 use frames::fields;
 use frames::numbers::StatementNo;
 use label_index::fill;
+use proving::hypothesis_seats;
+use proving::image_sets;
+use proving::label_words;
+use proving::local_labels;
+use proving::offsets;
+use proving::pair_sets;
+use proving::statement::answer_statement;
 
 // The file is turned away, or all its $p are answered: so many.
 pub enum Walked {

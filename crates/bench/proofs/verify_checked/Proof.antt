@@ -7,13 +7,13 @@ use Rattle.bench.proofs.verify_checked.Statement.{statement}
 use Rattle.bench.proofs.verify_checked.Tie as tie
 use Rattle.bench.proofs.verify_checked.Reads as reads
 use Rattle.bench.proofs.verify_checked.Lts as lts
-use Rattle.bench.proofs.hypothesis_seats.Reads as hypothesis-seats-reads
-use Rattle.bench.proofs.image_sets.Reads as image-sets-reads
-use Rattle.bench.proofs.label_words.Reads as label-words-reads
-use Rattle.bench.proofs.local_labels.Reads as local-labels-reads
-use Rattle.bench.proofs.offsets.Reads as offsets-reads
-use Rattle.bench.proofs.pair_sets.Reads as pair-sets-reads
-use Rattle.bench.proofs.statement.answer_statement.Reads as answer-statement-reads
+use Rattle.proving.proofs.hypothesis_seats.Reads as hypothesis-seats-reads
+use Rattle.proving.proofs.image_sets.Reads as image-sets-reads
+use Rattle.proving.proofs.label_words.Reads as label-words-reads
+use Rattle.proving.proofs.local_labels.Reads as local-labels-reads
+use Rattle.proving.proofs.offsets.Reads as offsets-reads
+use Rattle.proving.proofs.pair_sets.Reads as pair-sets-reads
+use Rattle.proving.proofs.statement.answer_statement.Reads as answer-statement-reads
 use Rattle.label_index.proofs.fill.Reads as fill-reads
 
 pair-sets-requires : tie.Need-pair-sets-requires

@@ -5,7 +5,7 @@ use Rattle.bench.proofs.verify_file.Statement.{statement}
 use Rattle.bench.proofs.verify_file.Tie as tie
 use Rattle.bench.proofs.verify_file.Reads as reads
 use Rattle.bench.proofs.verify_file.Lts as lts
-use Rattle.bench.proofs.offsets.Reads as offsets-reads
+use Rattle.proving.proofs.offsets.Reads as offsets-reads
 use Rattle.bench.proofs.verify_checked.Reads as verify-checked-reads
 use Rattle.filecheck.proofs.check.Reads as check-reads
 use Rattle.frames.proofs.number.Reads as number-reads

@@ -1,7 +1,7 @@
 -- `long_statement` meets its contract.
 use mathlib.Core.Path.{_∙_}
 use native.Mathlib.Omega.{arith}
-use Rattle.bench.proofs.Asking.{next-small, text-few}
+use Rattle.proving.proofs.Asking.{next-small, text-few}
 use Rattle.long.proofs.Answering.{proof-long, other-long, beyond-long}
 use borrow.Author.Needs.{needs}
 use Rattle.long.proofs.long_statement.Statement.{statement}

@@ -14,8 +14,8 @@ add-t40 : tie.Need-add-t40
 add-t40 c = search needs
 
 -- src/lib.rt:47:11
-run-place-requires : tie.Need-run-place-requires
-run-place-requires c κs = let r = c .before .before .before .before .before .before .before .before .before .before .before .before .before .before .before .before .before .before .before .before .before .before .pre .0 in (room-there r, (images-there r, tree-there r))
+run-unmarked-requires : tie.Need-run-unmarked-requires
+run-unmarked-requires c κs = let r = c .before .before .before .before .before .before .before .before .before .before .before .before .before .before .before .before .before .before .before .before .before .before .pre .0 in (room-there r, (images-there r, tree-there r))
 
 -- src/lib.rt:66:21
 enum-known-now : tie.Need-enum-known-now
@@ -55,7 +55,7 @@ same-length-6 c = search needs
 
 -- src/lib.rt:21:1
 returns : tie.Need-returns
-returns c = last-go (c .before .before .before .before .before .before .before .before .before .before .before .before .before .before .before .before .before .before .before .before .before .before .before .before .before .before .before .before .before .before .before .before .before .before .before .before .before .before .before .before .pre .0) (search needs) (rw (c .before .now .given .1) at (c .before .before .before .before .before .before .before .before .before .before .before .before .before .before .before .before .before .run-place .ensures))
+returns c = last-go (c .before .before .before .before .before .before .before .before .before .before .before .before .before .before .before .before .before .before .before .before .before .before .before .before .before .before .before .before .before .before .before .before .before .before .before .before .before .before .before .before .pre .0) (search needs) (rw (c .before .now .given .1) at (c .before .before .before .before .before .before .before .before .before .before .before .before .before .before .before .before .before .run-unmarked .ensures))
 
 -- src/lib.rt:21:1
 same-length-7 : tie.Need-same-length-7
@@ -89,7 +89,7 @@ same-length-14 c = search needs
 
 -- src/lib.rt:21:1
 returns-2 : tie.Need-returns-2
-returns-2 c = last-stop (c .before .before .before .before .before .before .before .before .before .before .before .before .before .before .before .before .before .before .before .before .before .before .before .before .before .before .before .before .before .before .before .before .before .before .before .before .before .before .before .before .pre .0) (rw (c .before .why .given .1) at (c .before .before .before .before .before .before .before .before .before .before .before .before .before .before .before .before .before .run-place .ensures))
+returns-2 c = last-stop (c .before .before .before .before .before .before .before .before .before .before .before .before .before .before .before .before .before .before .before .before .before .before .before .before .before .before .before .before .before .before .before .before .before .before .before .before .before .before .before .before .pre .0) (rw (c .before .why .given .1) at (c .before .before .before .before .before .before .before .before .before .before .before .before .before .before .before .before .before .run-unmarked .ensures))
 
 pub last-letter-spec : {M : Type 1} → statement M
 last-letter-spec =
@@ -97,7 +97,7 @@ last-letter-spec =
     (tie.spec
     mul-t39
     add-t40
-    run-place-requires
+    run-unmarked-requires
     enum-known-now
     add-t44
     enum-known-why

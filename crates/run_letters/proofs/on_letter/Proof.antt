@@ -1,7 +1,7 @@
 -- `run_letters::on_letter` meets its contract: one match decides which letter it is.
 use mathlib.Core.Path.{refl, sym, _∙_}
 use Rattle.run.proofs.Running.{images-there, places-there}
-use Rattle.run_letters.proofs.Lettering.{higher-small, ignored, last-small}
+use Rattle.run.proofs.Lettering.{higher-small, ignored, last-small}
 use borrow.Author.Needs.{needs}
 use Rattle.run_letters.proofs.on_letter.Statement.{statement}
 use Rattle.run_letters.proofs.on_letter.Tie as tie

@@ -7,7 +7,7 @@ use Rattle.walk.proofs.answer_next.Tie as tie
 use Rattle.walk.proofs.answer_next.Reads as reads
 use Rattle.walk.proofs.answer_next.Lts as lts
 use Rattle.answers.proofs.pack.Reads as pack-reads
-use Rattle.bench.proofs.statement.answer_statement.Reads as answer-statement-reads
+use Rattle.proving.proofs.statement.answer_statement.Reads as answer-statement-reads
 use Rattle.frames.proofs.fields.kind.Reads as kind-reads
 use Rattle.frames.proofs.fields.statement_offset.Reads as statement-offset-reads
 

@@ -6,7 +6,7 @@ use Rattle.walk.proofs.walk_file.Statement.{statement}
 use Rattle.walk.proofs.walk_file.Tie as tie
 use Rattle.walk.proofs.walk_file.Reads as reads
 use Rattle.walk.proofs.walk_file.Lts as lts
-use Rattle.bench.proofs.offsets.Reads as offsets-reads
+use Rattle.proving.proofs.offsets.Reads as offsets-reads
 use Rattle.filecheck.proofs.check.Reads as check-reads
 use Rattle.walk.proofs.walk_checked.Reads as walk-checked-reads
 

@@ -1,0 +1,2 @@
+-- The sizes of our own tables.
+pub mod Ours

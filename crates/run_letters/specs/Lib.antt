@@ -1,2 +1,0 @@
--- Reading a letter.
-pub mod Letters
