@@ -1,7 +1,7 @@
 -- Reading a letter.
-use Prim.Native.Nat.{ℕ}
+use Prim.Native.Nat.{ℕ, _+_}
 use mathlib.Core.Path.{_≡_}
-use mathlib.Core.Bool.{Bool}
+use mathlib.Core.Bool.{Bool, true}
 use mathlib.Core.List.{List}
 use Rattle.frames.specs.Database.{database}
 use Rattle.machine.specs.declared.Letter.{Letter}
@@ -9,8 +9,12 @@ use Rattle.machine.specs.declared.Letter.the-variants.{Last, Higher, Save, Inco
 use Rattle.machine.specs.Memory.{Memory}
 use Rattle.machine.specs.Run.{goOn, onLetter}
 use Rattle.memory.specs.declared.Counts.{Counts}
+use Rattle.memory.specs.declared.Outcome.{Outcome}
+use Rattle.memory.specs.declared.Outcome.the-variants as outcome
 use Rattle.memory.specs.Shown.{roomOf, Shown}
+use Rattle.run.specs.declared.Mode.the-variants.{Letters}
 use Rattle.run.specs.declared.Read.{Read}
+use Rattle.run.specs.declared.Read.the-variants.{Go, Stop}
 use Rattle.run.specs.Running.{Env, Tables, Sized, Running, widthOf, benchOf, lentOf, withPlacesOf}
 use Rattle.run.specs.Reads.{Reads, Keeps}
 
@@ -19,6 +23,11 @@ pub record ReadsLetter (e : Env) (t t′ : Tables) (c : Counts) (k : ℕ) (canSa
   pub keeps : Keeps (widthOf e) t′ steps answer
   pub follows : (m : Memory) (at : ℕ) → m .steps ≡ steps → Shown (benchOf e) (lentOf t) c m
       → Reads e t′ at (goOn at) (onLetter (database (e .file)) (e .asked) (roomOf (e .limits)) m k canSave at letter) answer
+
+-- after the step of a letter: it is completed, and `Z` may come; or it is refused, and not counted
+unfoldable pub afterLast : Outcome → ℕ → Read
+afterLast (outcome.Go c) steps = Go (Letters 0 true) c (steps + 1)
+afterLast (outcome.Refused why) steps = Stop why steps
 
 -- `A`..`T`
 abbrev pub LastLetter : Env → Tables → Tables → Counts → ℕ → ℕ → ℕ → Read → Type 0

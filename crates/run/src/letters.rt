@@ -1,9 +1,10 @@
 // A port of parts of src/verify.rs of metamath-rs 0.3.9 (the letters in verify_proof), changed (see NOTICE).
-// The letters of a compressed proof that run no step: a digit, a save, an unknown step.
+// The letters of a compressed proof: what comes after the step of a letter; a digit, a save, an unknown step.
+ghost use mathlib.Core.Path.{_≡_};
 ghost use Prim.Native.Nat.{_*_, _≤_, _<_};
 ghost use lib.ListN.{length};
 ghost use Rattle.machine.specs.Run.{kLimit};
-ghost use Rattle.run.specs.Letters.{HigherLetter, SaveLetter, IncompleteLetter};
+ghost use Rattle.run.specs.Letters.{afterLast, HigherLetter, SaveLetter, IncompleteLetter};
 use crate::Mode;
 use crate::Read;
 use machine::Refusal;
@@ -14,10 +15,36 @@ use memory::stack::save_top;
 // k must stay below this.
 pub const K_LIMIT: usize = 214748363;
 
-// Whether `Z` may come after a digit, after a save.
+// Whether `Z` may come after a step, after a digit, after a save.
+const AFTER_STEP: bool = true;
+
 const AFTER_DIGIT: bool = false;
 
 const AFTER_SAVE: bool = false;
+
+// `A`..`T`: after the step of its place. A step that is refused is not counted.
+pub fn after_last(outcome: Outcome, steps: usize) -> Read
+    requires { ⌜ steps ≤ 65536 ⌝ }
+    ensures { λ r. ⌜ r ≡ afterLast outcome steps ⌝ }
+{
+    match outcome {
+        Outcome::Go(now) => Read::Go {
+            mode: Mode::Letters {
+                k: 0,
+                can_save: AFTER_STEP,
+            },
+            counts: now,
+            steps: steps + 1,
+        },
+        Outcome::Refused(why) => {
+            let completed = steps;
+            Read::Stop {
+                why: why,
+                steps: completed,
+            }
+        }
+    }
+}
 
 // `U`..`Y`: one more digit of k: 22 where it does not stay below its limit.
 pub fn higher_letter(c: Counts, k: usize, d: usize, steps: usize) -> Read
@@ -26,14 +53,13 @@ pub fn higher_letter(c: Counts, k: usize, d: usize, steps: usize) -> Read
 {
     let next = 5 * k + d;
     if next < K_LIMIT {
-        let completed = steps;
         return Read::Go {
             mode: Mode::Letters {
                 k: next,
                 can_save: AFTER_DIGIT,
             },
             counts: c,
-            steps: completed,
+            steps: steps,
         };
     }
     Read::Stop {

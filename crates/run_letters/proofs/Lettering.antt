@@ -24,7 +24,7 @@ use Rattle.run.specs.declared.Read.the-variants.{Go, Stop}
 use Rattle.run.specs.Running.{env, tables, Running}
 use Rattle.run.specs.Reads.{modeOf, letters}
 use Rattle.run.proofs.Settling.{settled-go, stopped, keeps-stop, keeps-go}
-use Rattle.run.specs.Letters.{LastLetter}
+use Rattle.run.specs.Letters.{afterLast, LastLetter}
 
 -- the step of a letter
 module _ {f syms stmts : List ℕ} {p : ℕ} {text table : List ℕ} {limits : Limits} {seats froms tos sets numbers pool stack places locals tree : List ℕ} {c : Counts}
@@ -43,7 +43,7 @@ module _ {f syms stmts : List ℕ} {p : ℕ} {text table : List ℕ} {limits : L
 -- `A`..`T`
 module _ {f syms stmts : List ℕ} {p : ℕ} {text table : List ℕ} {limits : Limits} {seats seats′ froms tos sets numbers pool stack places locals tree froms′ tos′ sets′ pool′ stack′ tree′ : List ℕ} {c : Counts} {k d steps : ℕ}
     (r : Running (env f syms stmts p text table limits) (tables seats froms tos sets numbers pool stack places locals tree) c) where
-  pub last-go : {c′ : Counts} → length seats′ ≡ length seats → RunsPlace f syms stmts text table froms tos sets pool stack tree places (20 * k + d) c limits 0 0 froms′ tos′ sets′ pool′ stack′ tree′ (outcome.Go c′)
+  last-go : {c′ : Counts} → length seats′ ≡ length seats → RunsPlace f syms stmts text table froms tos sets pool stack tree places (20 * k + d) c limits 0 0 froms′ tos′ sets′ pool′ stack′ tree′ (outcome.Go c′)
       → LastLetter (env f syms stmts p text table limits) (tables seats froms tos sets numbers pool stack places locals tree) (tables seats′ froms′ tos′ sets′ numbers pool′ stack′ places locals tree′) c k d steps
       (Go (Letters 0 true) c′ (steps + 1))
   unfolding machine.onLetter modeOf
@@ -65,7 +65,7 @@ module _ {f syms stmts : List ℕ} {p : ℕ} {text table : List ℕ} {limits : L
             settled-go (m .steps) (machine.goOn at) (Letters 0 true) (w .1) (w .2) (let n′ = steps-out (step-at-steps _ _ _ _ _) (w .1) in omega arith);
       }
 
-  pub last-stop : {why : Refusal} → RunsPlace f syms stmts text table froms tos sets pool stack tree places (20 * k + d) c limits 0 0 froms′ tos′ sets′ pool′ stack′ tree′ (outcome.Refused why)
+  last-stop : {why : Refusal} → RunsPlace f syms stmts text table froms tos sets pool stack tree places (20 * k + d) c limits 0 0 froms′ tos′ sets′ pool′ stack′ tree′ (outcome.Refused why)
       → LastLetter (env f syms stmts p text table limits) (tables seats froms tos sets numbers pool stack places locals tree) (tables seats′ froms′ tos′ sets′ numbers pool′ stack′ places locals tree′) c k d steps
       (Stop why steps)
   unfolding machine.onLetter
@@ -74,3 +74,10 @@ module _ {f syms stmts : List ℕ} {p : ℕ} {text table : List ℕ} {limits : L
         keeps = keeps-stop;
         follows = λ m at n s. (stopped (machine.goOn at) (machine.goOn at (machine.inLetters 0 true)) n (ends-refused (place-follows r runs m s)));
       }
+
+  pub last-read : length seats′ ≡ length seats → (answer : Outcome) → RunsPlace f syms stmts text table froms tos sets pool stack tree places (20 * k + d) c limits 0 0 froms′ tos′ sets′ pool′ stack′ tree′ answer
+      → LastLetter (env f syms stmts p text table limits) (tables seats froms tos sets numbers pool stack places locals tree) (tables seats′ froms′ tos′ sets′ numbers pool′ stack′ places locals tree′) c k d steps
+      (afterLast answer steps)
+  unfolding afterLast
+  last-read same-seats (outcome.Go c′) runs = last-go same-seats runs
+  last-read same-seats (outcome.Refused why) runs = last-stop runs

@@ -11,16 +11,13 @@ use frames::numbers::StatementNo;
 use machine::Letter;
 use memory::Counts;
 use memory::Limits;
-use memory::Outcome;
 use run::Mode;
 use run::Read;
+use run::letters::after_last;
 use run::letters::higher_letter;
 use run::letters::incomplete_letter;
 use run::letters::save_letter;
 use tokens::letter;
-
-// Whether `Z` may come after a step.
-const AFTER_STEP: bool = true;
 
 // `A`..`T`: the step at place 20k + d.
 fn last_letter(
@@ -50,7 +47,7 @@ fn last_letter(
     requires low { ⌜ (k < kLimit) × ((d < 20) × (steps ≤ 65536)) ⌝ }
     ensures { λ r. ⌜ LastLetter (env (now (file .entry)) (now (symbols .entry)) (now (statements .entry)) (p .0) (now (text .entry)) (now (table .entry)) limits) (tables (now (seats .entry)) (now (froms .entry)) (now (tos .entry)) (now (sets .entry)) (now (numbers .entry)) (now (pool .entry)) (now (stack .entry)) (now (places .entry)) (now (locals .entry)) (now (tree .entry))) (tables (now (seats .exit)) (now (froms .exit)) (now (tos .exit)) (now (sets .exit)) (now (numbers .entry)) (now (pool .exit)) (now (stack .exit)) (now (places .entry)) (now (locals .entry)) (now (tree .exit))) c k d steps r ⌝ }
 {
-    match run_unmarked(
+    let outcome = run_unmarked(
         file,
         symbols,
         statements,
@@ -67,20 +64,8 @@ fn last_letter(
         PlaceNo(20 * k + d),
         c,
         limits,
-    ) {
-        Outcome::Go(now) => Read::Go {
-            mode: Mode::Letters {
-                k: 0,
-                can_save: AFTER_STEP,
-            },
-            counts: now,
-            steps: steps + 1,
-        },
-        Outcome::Refused(why) => Read::Stop {
-            why: why,
-            steps: steps,
-        },
-    }
+    );
+    after_last(outcome, steps)
 }
 
 // A letter of a compressed proof: a digit, a step, a save, an unknown step, or a byte that is ignored.
