@@ -2,3 +2,4 @@
 pub mod Rooms
 pub mod ToldLines
 pub mod Checks
+pub mod Examples

@@ -63,13 +63,7 @@ fn put_long(out: &mut [u8], label: &[u8], text: &[u8]) -> Grown
 }
 
 // Puts `LABEL refused NUMBER PLACE STEPS` at the start of out.
-fn put_refusal(
-    out: &mut [u8],
-    label: &[u8],
-    number: usize,
-    place: usize,
-    steps: usize,
-) -> Grown
+fn put_refusal(out: &mut [u8], label: &[u8], number: usize, place: usize, steps: usize) -> Grown
     ensures { λ r. ⌜ Adds (refusalLine (now (label .entry)) number place steps) 0 (length (now (out .entry))) (now (out .entry)) (now (out .exit)) r ⌝ }
 {
     let name = put_named(out, label, b" refused ");
