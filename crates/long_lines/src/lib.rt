@@ -1,5 +1,5 @@
 // What the program `longform` writes: for each $p of the frame file on standard input one line, `LABEL: TEXT` or `LABEL refused NUMBER PLACE STEPS`; for a bad
-// file `refused NUMBER PLACE`. All lines together can be some 100 MB, so each is put into a buffer and written before the next one is made.
+// file `refused NUMBER PLACE`. All lines together can have more than 50 MB, so each is put into a buffer and written before the next one is made.
 ghost use mathlib.Core.Path.{_≡_};
 ghost use mathlib.Core.List.{_++_};
 ghost use Prim.Native.Nat.{_<_, _≤_};
