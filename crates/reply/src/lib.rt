@@ -217,11 +217,27 @@ pub fn reply(input: &[u8], out: &mut [u8; 524352]) -> usize
     put_whole(input, out)
 }
 
-// Reads standard input and writes the reply to it.
+// Writes the reply to an input.
+fn write_reply(input: &[u8]) {
+    let mut out = page();
+    let n = reply(input, &mut out);
+    io::write_all(STDOUT_FILENO, &out[..n]);
+}
+
+// All of standard input was read: its n bytes fill the room for it, or one more read meets its end. (io::read_full stops at a failed read as at the end.)
+pub fn all_read(n: usize) -> bool {
+    if n == 65537 {
+        return true;
+    }
+    let mut byte = [0u8; 1];
+    libc::read(STDIN_FILENO, &mut byte) == 0
+}
+
+// Reads standard input and writes the reply to it; nothing where a read fails.
 pub fn answer_input() {
     let mut input = input_room();
     let n = io::read_full(STDIN_FILENO, &mut input);
-    let mut out = page();
-    let k = reply(&input[..n], &mut out);
-    io::write_all(STDOUT_FILENO, &out[..k]);
+    if all_read(n) {
+        write_reply(&input[..n]);
+    }
 }
