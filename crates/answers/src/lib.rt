@@ -1,4 +1,6 @@
 // The answer of a call, for callers in C and Rust: the paper's number of a refusal, and number, place and steps as one number of 64 bits.
+#![tactic(auto)]
+
 ghost use Rattle.std.specs.Prelude.{◌≡◌, ◌<◌};
 ghost use Rattle.machine.specs.Answer.{refusal_number};
 ghost use Rattle.answers.specs.Packed.{packed_answer, number_in, place_in, steps_in};

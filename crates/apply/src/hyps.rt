@@ -12,7 +12,7 @@ use packed::compare::do_substitute_eq;
 use packed::images::bind;
 
 // The hypothesis is as it must be, or the proof is refused.
-#[derive(Drop)]
+#[derive(Clone, Copy)]
 pub enum Processed {
     Fine,
     Refused(Refusal),

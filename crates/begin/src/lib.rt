@@ -1,5 +1,7 @@
 // A port of parts of src/verify.rs of metamath-rs 0.3.9 (the start of verify_proof), changed (see NOTICE).
 // What comes before the first token of a proof: the text has no bad byte, and the first variables are numbered.
+#![tactic(auto)]
+
 ghost use Rattle.begin.specs.Begins.{Begins};
 
 use machine::Refusal;

@@ -1,5 +1,7 @@
 // A port of parts of src/verify.rs of metamath-rs 0.3.9 (verify_segment), changed (see NOTICE).
 // The calls of the bench: any bytes as frame file, any statement number, any size of lent memory.
+#![tactic(auto)]
+
 ghost use Rattle.std.specs.Prelude.{◌≡◌, length};
 ghost use Rattle.frames.specs.Database.{database};
 ghost use Rattle.machine.specs.Bench.{answer, answer_good};

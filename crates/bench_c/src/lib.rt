@@ -6,6 +6,8 @@
 //       uint64_t *stack, size_t stack_length, uint64_t *places, size_t places_length);
 //   uint64_t bench_long(const uint8_t *file, size_t file_length, size_t statement, uint8_t *pool, size_t pool_length, uint64_t *stack, size_t stack_length,
 //       uint64_t *places, size_t places_length, uint64_t *tree, size_t tree_length, uint8_t *output, size_t output_length);
+#![tactic(auto)]
+
 ghost use Rattle.std.specs.Prelude.{◌≡◌, ◌<◌};
 ghost use Rattle.bench_c.specs.Words.{VerifiedWord, AllWords, LongWord};
 

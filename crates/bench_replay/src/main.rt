@@ -1,6 +1,8 @@
 // Replays the list of runs on standard input: hands each call of the list to the bench, with exactly so much memory lent, and writes `NUMBER PLACE STEPS`.
 // All that is lent is set to other bytes than zero before a call; where one is left after it, `not zero` is written. The list's form is told in
 // tests/bench_replay/make.py, which writes it and the answers that are expected.
+#![tactic(auto)]
+
 ghost use Rattle.std.specs.Prelude.{◌≡◌, ◌<◌, ◌≤◌, length};
 
 use bench::verify;
@@ -8,7 +10,7 @@ use libc::{STDIN_FILENO, STDOUT_FILENO};
 use std::num::wrapping_add_usize;
 
 // One call: where its file lies in the list, the statement, and how many bytes and words are lent.
-#[derive(Drop)]
+#[derive(Clone, Copy)]
 struct Call {
     from: usize,
     to: usize,

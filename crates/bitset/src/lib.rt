@@ -2,39 +2,41 @@
 // Sets of small numbers, by value: a bit for each number below `Bitset::BITS`, in `Bitset::WORDS` words of 64.
 // The contracts say what a set's words are by definitions over a list of words of any length (specs/Sets.antt), and the
 // laws say what its members are (proofs/Laws.antt, proofs/Listed.antt). No method has a `requires`.
+#![tactic(auto)]
+
 ghost use Rattle.std.specs.Prelude.{◌≡◌, ◌%◌, ◌^◌};
 ghost use Rattle.bitset.specs.Sets.{member, members, Words, Empty, Added, United, TellsEmpty};
 ghost use Rattle.bitset.specs.Iter.{left, first_of, rest_of};
 
 // A set: bit n % 64 of word n / 64 says whether n is a member.
-#[derive(Drop)]
+#[derive(Clone, Copy)]
 pub struct Bitset {
     pub words: [u64; Bitset::WORDS],
 }
 
 // What `replace_bit` gives: whether the number was a member, and the set with it.
-#[derive(Drop)]
+#[derive(Clone, Copy)]
 pub struct Replaced {
     pub old: bool,
     pub set: Bitset,
 }
 
 // A member, or none where an iteration has come to its end.
-#[derive(Drop)]
+#[derive(Clone, Copy)]
 pub enum Member {
     At(usize),
     Nothing,
 }
 
 // An iteration over a set, upwards: the members from `at` on are still to come.
-#[derive(Drop)]
+#[derive(Clone, Copy)]
 pub struct BitsetIter {
     pub set: Bitset,
     pub at: usize,
 }
 
 // What `next` gives: the first member that was left, and the iteration after it.
-#[derive(Drop)]
+#[derive(Clone, Copy)]
 pub struct Step {
     pub member: Member,
     pub rest: BitsetIter,
@@ -54,7 +56,7 @@ impl Bitset {
 
     // The set with no member.
     pub fn new() -> Self
-        ensures* { do ⌜ Empty result.words (← (⟦Bitset::WORDS⟧).entry) ⌝ }
+        ensures { Empty result.words Bitset.WORDS }
     {
         Bitset {
             words: [0u64; Bitset::WORDS],
@@ -64,7 +66,7 @@ impl Bitset {
     // The set with `bit` added. A number of BITS or more is refused: the set comes back as it was.
     pub fn set_bit(mut self, bit: usize) -> Self
         ensures adds { Added self.words bit result.words }
-        ensures* words { do ⌜ Words (← (⟦Bitset::BITS⟧).entry) self.words ⌝ }
+        ensures words { Words Bitset.BITS self.words }
     {
         if bit < Bitset::BITS {
             let w = bit / 64;
@@ -76,7 +78,7 @@ impl Bitset {
     // Whether `bit` is a member. No number of BITS or more is.
     pub fn has_bit(self, bit: usize) -> bool
         ensures tells { result ≡ member self.words bit }
-        ensures* words { do ⌜ Words (← (⟦Bitset::BITS⟧).entry) self.words ⌝ }
+        ensures words { Words Bitset.BITS self.words }
     {
         if Bitset::BITS <= bit {
             return false;
@@ -89,7 +91,7 @@ impl Bitset {
     pub fn replace_bit(self, bit: usize) -> Replaced
         ensures tells { result.old ≡ member self.words bit }
         ensures adds { Added self.words bit result.set.words }
-        ensures* words { do ⌜ Words (← (⟦Bitset::BITS⟧).entry) self.words ⌝ }
+        ensures words { Words Bitset.BITS self.words }
     {
         let set = self.set_bit(bit);
         let old = self.has_bit(bit);
@@ -99,7 +101,7 @@ impl Bitset {
     // Whether the set has no member.
     pub fn is_empty(self) -> bool
         ensures tells { TellsEmpty self.words result }
-        ensures* words { do ⌜ Words (← (⟦Bitset::BITS⟧).entry) self.words ⌝ }
+        ensures words { Words Bitset.BITS self.words }
     {
         let mut i = 0;
         while i < Bitset::WORDS {
@@ -114,8 +116,8 @@ impl Bitset {
     // The set of what is a member of one or of the other.
     pub fn union(self, other: Bitset) -> Self
         ensures joins { United self.words other.words result.words }
-        ensures* words { do ⌜ Words (← (⟦Bitset::BITS⟧).entry) self.words ⌝ }
-        ensures* others { do ⌜ Words (← (⟦Bitset::BITS⟧).entry) other.words ⌝ }
+        ensures words { Words Bitset.BITS self.words }
+        ensures others { Words Bitset.BITS other.words }
     {
         let mut set = self;
         let mut k = 0;
@@ -129,7 +131,7 @@ impl Bitset {
     // The iteration over all members, upwards.
     pub fn iter(self) -> BitsetIter
         ensures starts { left result ≡ members self.words }
-        ensures* words { do ⌜ Words (← (⟦Bitset::BITS⟧).entry) self.words ⌝ }
+        ensures words { Words Bitset.BITS self.words }
     {
         BitsetIter { set: self, at: 0 }
     }

@@ -1,4 +1,6 @@
 // Runs the sets of `bitset` at their limits and writes what they answer: a line for each number tried, then unions and their members.
+#![tactic(auto)]
+
 ghost use Rattle.std.specs.Prelude.{◌≡◌, true, false, ◌≤◌, ◌<◌};
 
 use bitset::{Bitset, BitsetIter, Member};

@@ -1,4 +1,6 @@
 // Clearing lent buffers: each element 0, in the whole length. One function for each width, one law for all of them.
+#![tactic(auto)]
+
 ghost use Rattle.std.specs.Prelude.{◌≡◌};
 ghost use Rattle.clearing.specs.Cleared.{cleared};
 

@@ -9,7 +9,7 @@ use memory::table::{Row, row_at};
 use packed::compare::raw_eq;
 
 // The claim is proved, or the proof is refused.
-#[derive(Drop)]
+#[derive(Clone, Copy)]
 pub enum Ended {
     Accepted,
     Refused(Refusal),

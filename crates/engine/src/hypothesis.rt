@@ -10,7 +10,7 @@ use packed::substitute::do_substitute_raw;
 use variables::map_var;
 
 // How far the pool is used and how many variables have a number, or why the hypothesis is refused.
-#[derive(Drop)]
+#[derive(Clone, Copy)]
 pub enum Prepared {
     Ready { used: usize, count: u32 },
     Refused(Refusal),

@@ -1,5 +1,7 @@
 // The check of a whole frame file: the records are judged one after another, and the offsets of symbols and statements are
 // left in the two tables.
+#![tactic(auto)]
+
 ghost use Rattle.std.specs.Prelude.{◌≡◌, ◌+◌, ◌≤◌, ◌<◌, length, set, take};
 ghost use Rattle.frames.specs.Logic.{equal, pick};
 ghost use Rattle.frames.specs.Layout.{kind_at, next_at, is_statement};
@@ -53,7 +55,7 @@ fn judge(file: &[u8], symbols: &[u32], statements: &[u32], st: Walk) -> Fault
 
 // Where the walk stands: the offset of the next record, how many symbols and statements it has read, and whether the last
 // record is a $p.
-#[derive(Drop)]
+#[derive(Clone, Copy)]
 pub struct Walk {
     pub at: u32,
     pub symbols: usize,

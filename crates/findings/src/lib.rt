@@ -1,5 +1,7 @@
 // A port of parts of src/verify.rs of metamath-rs 0.3.9 (verify_proof, finalize_step), changed (see NOTICE).
 // The findings at the end of a proof's text, and the answer that they give.
+#![tactic(auto)]
+
 ghost use Rattle.std.specs.Prelude.{◌≡◌};
 ghost use Rattle.findings.specs.Tells.{ChecksMode, answer_of, Closes};
 
@@ -11,7 +13,7 @@ use run::Mode;
 use run_bytes::Stopped;
 
 // The proof is accepted, at this place and after so many steps, with the word of its derivation and the tree entries that hold it; or it is refused.
-#[derive(Drop)]
+#[derive(Clone, Copy)]
 pub enum Answer {
     Accepted {
         place: usize,

@@ -1,5 +1,7 @@
 // Checks the frame file on standard input, of at most 65,536 bytes, and writes its verdict as one line:
 // `good SYMBOLS STATEMENTS` or `refused NUMBER PLACE`. A longer input is `refused 2 0`.
+#![tactic(auto)]
+
 ghost use Rattle.std.specs.Prelude.{◌≡◌, length, take};
 ghost use Rattle.io.specs.Counts.{IsPrefixLen};
 ghost use Rattle.verdict_text.specs.Text.{line_of};

@@ -137,14 +137,14 @@ pub fn proof_text(file: &[u8], at: u32) -> &[u8]
 }
 
 // What a search by name finds.
-#[derive(Drop)]
+#[derive(Clone, Copy)]
 pub enum FoundSymbol {
     Symbol(SymbolNo),
     NoSymbol,
 }
 
 // What a search by label finds.
-#[derive(Drop)]
+#[derive(Clone, Copy)]
 pub enum FoundStatement {
     Statement(StatementNo),
     NoStatement,

@@ -1,4 +1,6 @@
 // The frame file: its refusals and verdicts, and readers of its records. The check of a whole file is in the crate filecheck.
+#![tactic(auto)]
+
 ghost use Rattle.std.specs.Prelude.{◌≡◌};
 ghost use Rattle.frames.specs.Verdict.{number_of};
 
@@ -11,7 +13,7 @@ pub mod refer;
 pub mod text;
 
 // Why a frame file is turned away.
-#[derive(Drop)]
+#[derive(Clone, Copy)]
 pub enum Refusal {
     BadRecord,
     TooMany,
@@ -23,14 +25,14 @@ pub enum Refusal {
 }
 
 // What is wrong with one record.
-#[derive(Drop)]
+#[derive(Clone, Copy)]
 pub enum Fault {
     Fine,
     Is(Refusal),
 }
 
 // The answer of the file check.
-#[derive(Drop)]
+#[derive(Clone, Copy)]
 pub enum Verdict {
     Good { symbols: usize, statements: usize },
     Refused { why: Refusal, place: usize },

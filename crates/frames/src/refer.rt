@@ -51,7 +51,7 @@ pub fn hypothesis(file: &[u8], at: u32, i: usize) -> StatementNo
 }
 
 // A pair of symbol numbers.
-#[derive(Drop)]
+#[derive(Clone, Copy)]
 pub struct Pair {
     pub left: SymbolNo,
     pub right: SymbolNo,

@@ -74,7 +74,7 @@ pub fn same_bytes(a: &[u8], b: &[u8]) -> bool
 }
 
 // What a search by name or label finds: the number of a record that bears it, or that none does.
-#[derive(Drop)]
+#[derive(Clone, Copy)]
 pub enum Found {
     At(usize),
     Nothing,

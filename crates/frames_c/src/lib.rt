@@ -1,6 +1,8 @@
 // The file check for a caller in C or Rust. `answer` is document 01's number and the place; for a good file 0, the number of
 // symbols and the number of statements.
 //   void frames_check(const uint8_t *file, size_t length, uint32_t symbols[4096], uint32_t statements[4096], uint64_t answer[3]);
+#![tactic(auto)]
+
 ghost use Rattle.std.specs.Prelude.{◌≡◌};
 ghost use Rattle.frames_c.specs.Answer.{answer_of, Answered};
 

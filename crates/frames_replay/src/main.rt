@@ -1,19 +1,21 @@
 // Replays the list of frame files on standard input: unpacks each file, has it checked, and writes its name and verdict.
 // The list's form is told in tests/make_cases.py, which writes it and the verdicts that are expected, stated by hand.
+#![tactic(auto)]
+
 ghost use Rattle.std.specs.Prelude.{◌≡◌, ◌<◌, length};
 
 use libc::{STDIN_FILENO, STDOUT_FILENO};
 use std::num::wrapping_add_usize;
 
 // Where the replay stands: the place in the list, and how many bytes the unpacked file has.
-#[derive(Drop)]
+#[derive(Clone, Copy)]
 struct Spot {
     at: usize,
     len: usize,
 }
 
 // What one run of a packed file leads to.
-#[derive(Drop)]
+#[derive(Clone, Copy)]
 enum Next {
     More(Spot),
     Over(Spot),

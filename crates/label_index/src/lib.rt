@@ -1,6 +1,8 @@
 // The index of labels: which statement bears a label, found by a hash and a short chain in the place of a search through all statements.
 // It is filled once after the file check. Words 0 to 8191 are the heads of the chains, one for each hash; word 8192 + j is what
 // follows statement j in its chain. A word is a statement number and 1, or 0 at the end of a chain.
+#![tactic(auto)]
+
 ghost use Rattle.std.specs.Prelude.{◌≡◌, ◌<◌, ◌≤◌, length};
 ghost use Rattle.frames.specs.Search.{FindsStatement};
 ghost use Rattle.label_index.specs.Labelled.{hash_of, Labelled, LabelledTo, Put};

@@ -1,4 +1,6 @@
 // The lines that the program prints, each put into a lent buffer at a position; the answer is how far the buffer is filled then, or that there is no room.
+#![tactic(auto)]
+
 ghost use Rattle.std.specs.Prelude.{◌≡◌, ◌+◌, ◌≤◌, length};
 ghost use Rattle.packed.specs.Pool.{written, Adds};
 ghost use Rattle.verdict_text.specs.Text.{decimal, refused_line};

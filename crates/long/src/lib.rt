@@ -1,4 +1,6 @@
 // The long-form call: any bytes as frame file, any statement number, any size of what is lent.
+#![tactic(auto)]
+
 ghost use Rattle.std.specs.Prelude.{◌≡◌, min, length};
 ghost use Rattle.frames.specs.Database.{database};
 ghost use Rattle.machine.specs.Bench.{answer_good};

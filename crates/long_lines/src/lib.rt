@@ -1,5 +1,7 @@
 // What the program `longform` writes: for each $p of the frame file on standard input one line, `LABEL: TEXT` or `LABEL refused NUMBER PLACE STEPS`; for a bad
 // file `refused NUMBER PLACE`. All lines together can have more than 50 MB, so each is put into a buffer and written before the next one is made.
+#![tactic(auto)]
+
 ghost use Rattle.std.specs.Prelude.{◌≡◌, ◌++◌, ◌<◌, ◌≤◌, length, take};
 ghost use Rattle.io.specs.Counts.{IsPrefixLen};
 ghost use Rattle.packed.specs.Pool.{Adds};

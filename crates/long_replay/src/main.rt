@@ -1,6 +1,8 @@
 // Replays the list of long forms on standard input: hands each call of the list to the long-form call, with exactly so much memory lent, and writes `NUMBER PLACE STEPS`
 // and, where NUMBER is 0, the text. All that is lent is set to other bytes than zero before a call; where one is left after it in what must be zero, `not zero` is written, and where
 // the output holds something else after the text, `changed`. The list's form is told in tests/long_replay/make.py, which writes it and the answers that are expected.
+#![tactic(auto)]
+
 ghost use Rattle.std.specs.Prelude.{◌≡◌, ◌<◌, ◌≤◌, length};
 
 use libc::{STDIN_FILENO, STDOUT_FILENO};
@@ -9,7 +11,7 @@ use std::num::wrapping_add_usize;
 use told::Told;
 
 // One call: where its file lies in the list, the statement, and how many bytes and words are lent.
-#[derive(Drop)]
+#[derive(Clone, Copy)]
 struct Call {
     from: usize,
     to: usize,

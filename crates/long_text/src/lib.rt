@@ -1,4 +1,6 @@
 // The text of a recorded derivation, where it fits: its length is known before a byte of it is written, so that an output which is too short stays as it was.
+#![tactic(auto)]
+
 ghost use Rattle.std.specs.Prelude.{◌≡◌, ◌-◌, length};
 ghost use Rattle.postorder.specs.LongForm.{most_bytes};
 ghost use Rattle.long_text.specs.Long.{Tells, WritesLong};
@@ -7,7 +9,7 @@ use sizes::{measure, size_of};
 use spell::text::write_text;
 
 // What was written: the whole text, with its length; or nothing, since it is too long.
-#[derive(Drop)]
+#[derive(Clone, Copy)]
 pub enum Written {
     Whole(usize),
     TooLong,

@@ -1,5 +1,7 @@
 // A port of parts of src/verify.rs of metamath-rs 0.3.9 (VerifyState, save_step), changed (see NOTICE).
 // The working memory of a run: the stack and the places as lent tables of rows, and the counts that go with them by value.
+#![tactic(auto)]
+
 pub mod stack;
 pub mod table;
 
@@ -7,7 +9,7 @@ use machine::Refusal;
 
 // How much of the memory is used: pool bytes, variables, places, local labels, stack entries, tree entries (more than are lent where the derivation did not
 // fit).
-#[derive(Drop)]
+#[derive(Clone, Copy)]
 pub struct Counts {
     pub used: usize,
     pub count: u32,
@@ -18,7 +20,7 @@ pub struct Counts {
 }
 
 // How much of it may be used.
-#[derive(Drop)]
+#[derive(Clone, Copy)]
 pub struct Limits {
     pub pool: usize,
     pub stack: usize,
@@ -26,7 +28,7 @@ pub struct Limits {
 }
 
 // The run goes on with these counts, or the proof is refused.
-#[derive(Drop)]
+#[derive(Clone, Copy)]
 pub enum Outcome {
     Go(Counts),
     Refused(Refusal),

@@ -7,7 +7,7 @@ use bitset::Bitset;
 
 // A row: on the stack the typecode, the range of the pool, the mark (0 for none, else one more than where it begins in the text) and its end, the word of its
 // derivation, and the set of variables; in a place the same with the tag 0, or the number of the assertion with the tag 1.
-#[derive(Drop)]
+#[derive(Clone, Copy)]
 pub struct Row {
     pub head: usize,
     pub from: usize,

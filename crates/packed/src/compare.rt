@@ -15,7 +15,7 @@ use frames::record::{symbol_count, symbols_from};
 use frames::refer::entry;
 
 // Where a text that was met in the pool ends, or that other bytes stand there.
-#[derive(Drop)]
+#[derive(Clone, Copy)]
 pub enum Met {
     To(usize),
     Differs,

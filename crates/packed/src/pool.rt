@@ -5,7 +5,7 @@ ghost use Rattle.packed.specs.Packing.{ended};
 ghost use Rattle.packed.specs.Pool.{written, range, Adds, Untouched};
 
 // How far the pool is used after bytes were added, or that there is no room for them.
-#[derive(Drop)]
+#[derive(Clone, Copy)]
 pub enum Grown {
     To(usize),
     Full,

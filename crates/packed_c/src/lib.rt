@@ -7,6 +7,8 @@
 //   size_t packed_spell(file, symbols, at, pool, used, limit);
 //   size_t packed_is_substituted(file, symbols, at, froms, tos, pool, from, to);
 //   size_t packed_is_spelled(file, symbols, at, pool, from, to);
+#![tactic(auto)]
+
 ghost use Rattle.std.specs.Prelude.{◌≡◌, length};
 ghost use Rattle.frames.specs.Logic.{both};
 ghost use Rattle.packed.specs.Pool.{range};

@@ -1,6 +1,8 @@
 // Tries the functions over the pool on the frame file on standard input: for each $a and $p its variables are bound to texts of earlier
 // statements and its symbols substituted, compared, copied and left out for want of room. A line tells what came out; the form of a line and the
 // choice of the texts are told in tests/packed/make_try.py, which works out the expected lines by itself.
+#![tactic(auto)]
+
 ghost use Rattle.std.specs.Prelude.{◌≡◌, length};
 
 use bitset::{Bitset, BitsetIter, Member};
@@ -234,7 +236,7 @@ fn raws(
 }
 
 // Where the two texts of a statement end: its symbols as substituted, and after them its symbols as they are.
-#[derive(Drop)]
+#[derive(Clone, Copy)]
 struct Texts {
     end: usize,
     last: usize,

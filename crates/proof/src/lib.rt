@@ -1,5 +1,7 @@
 // A port of parts of src/verify.rs of metamath-rs 0.3.9 (verify_proof), changed (see NOTICE).
 // A whole proof: the start, the text, its end.
+#![tactic(auto)]
+
 ghost use Rattle.std.specs.Prelude.{◌≤◌, length};
 ghost use Rattle.run.specs.Running.{env, tables, Running};
 ghost use Rattle.run.specs.Reads.{Low};

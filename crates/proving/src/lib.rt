@@ -1,5 +1,7 @@
 // A port of parts of src/verify.rs of metamath-rs 0.3.9 (verify_segment), changed (see NOTICE).
 // The proof of one statement of a checked file, run over tables of our own: how large these are, and as much of them as the file asks for.
+#![tactic(auto)]
+
 ghost use Rattle.std.specs.Prelude.{◌≡◌, ◌<◌, ◌≤◌, length};
 ghost use Rattle.frames.specs.Database.{database};
 ghost use Rattle.machine.specs.Memory.{limited};

@@ -1,4 +1,6 @@
 // Recording the derivation of a run: an application's entries go behind those that are used, where they fit.
+#![tactic(auto)]
+
 ghost use Rattle.std.specs.Prelude.{◌+◌, ◌≤◌, length};
 ghost use Rattle.recording.specs.Notes.{PutsNodes, Notes};
 
@@ -6,7 +8,7 @@ use frames::refer::entry;
 use memory::table::word_at;
 
 // The word of the application that was recorded, and how many tree entries are used then: more than there are where it did not fit.
-#[derive(Drop)]
+#[derive(Clone, Copy)]
 pub struct Noted {
     pub word: usize,
     pub nodes: usize,

@@ -1,5 +1,7 @@
 // What the program `check_proofs` writes for an input: `checked N` and a line `LABEL NUMBER PLACE STEPS` for each $p in file order; for a bad file
 // `refused NUMBER PLACE`. An input of more than 65,536 bytes is `refused 2 0`.
+#![tactic(auto)]
+
 ghost use Rattle.std.specs.Prelude.{◌≡◌, ◌<◌, ◌≤◌, length, take};
 ghost use Rattle.io.specs.Counts.{IsPrefixLen};
 ghost use Rattle.frames.specs.Logic.{equal};

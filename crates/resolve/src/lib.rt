@@ -1,5 +1,7 @@
 // A port of parts of src/verify.rs of metamath-rs 0.3.9 (prepare_step), changed (see NOTICE).
 // Which step a label names: a place, a hypothesis or an assertion, or why there is none. Nothing is changed here; the engine makes the step ready.
+#![tactic(auto)]
+
 pub mod labels;
 pub mod locals;
 
@@ -20,7 +22,7 @@ use machine::Refusal;
 use tokens::{find, parts};
 
 // What a step is: what stands at a place, a $f or $e, a $a or $p, or why it is refused.
-#[derive(Drop)]
+#[derive(Clone, Copy)]
 pub enum PreparedStep {
     Place(PlaceNo),
     Hypothesis(StatementNo),

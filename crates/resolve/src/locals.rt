@@ -11,7 +11,7 @@ use frames::refer::entry;
 use frames::text::same_bytes;
 
 // What a search among the local labels finds.
-#[derive(Drop)]
+#[derive(Clone, Copy)]
 pub enum FoundPlace {
     Place(PlaceNo),
     NoPlace,

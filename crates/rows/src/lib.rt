@@ -1,5 +1,7 @@
 // The rows of the table: each of the seven functions decides one row for the record at `at`, given the offsets of the symbols and
 // of the statements before it.
+#![tactic(auto)]
+
 mod framing;
 mod numbers;
 mod proof;

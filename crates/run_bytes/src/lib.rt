@@ -1,5 +1,7 @@
 // A port of parts of src/verify.rs of metamath-rs 0.3.9 (verify_proof), changed (see NOTICE).
 // The bytes of a proof's text: a letter is judged at once, a token at the divider after it.
+#![tactic(auto)]
+
 ghost use Rattle.std.specs.Prelude.{◌≡◌, true, ◌+◌, ◌≤◌, ◌<◌, length, get_or};
 ghost use Rattle.machine.specs.Reading as reading;
 ghost use Rattle.machine.specs.Run.{k_limit};
@@ -18,7 +20,7 @@ use run_tokens::on_token;
 use tokens::divider;
 
 // Where a run stands: how it reads on, where the token so far begins in the text, the completed steps, and how much of the memory is used.
-#[derive(Drop)]
+#[derive(Clone, Copy)]
 pub struct State {
     pub mode: Mode,
     pub token: usize,
@@ -27,7 +29,7 @@ pub struct State {
 }
 
 // Why a run is over, where, and after how many steps.
-#[derive(Drop)]
+#[derive(Clone, Copy)]
 pub struct Stopped {
     pub why: Refusal,
     pub place: usize,
@@ -35,7 +37,7 @@ pub struct Stopped {
 }
 
 // The run goes on, or it is over.
-#[derive(Drop)]
+#[derive(Clone, Copy)]
 pub enum Next {
     Going(State),
     Over(Stopped),

@@ -1,5 +1,7 @@
 // A port of parts of src/verify.rs of metamath-rs 0.3.9 (the letters in verify_proof), changed (see NOTICE).
 // The letters of a compressed proof.
+#![tactic(auto)]
+
 ghost use Rattle.std.specs.Prelude.{◌≤◌, ◌<◌};
 ghost use Rattle.machine.specs.Run.{k_limit};
 ghost use Rattle.run.specs.Running.{env, tables, Running};

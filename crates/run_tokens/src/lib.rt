@@ -1,5 +1,7 @@
 // A port of parts of src/verify.rs of metamath-rs 0.3.9 (the tokens in verify_proof), changed (see NOTICE).
 // The tokens of a proof: the steps of a normal proof with their local labels, and the roster of a compressed one.
+#![tactic(auto)]
+
 ghost use Rattle.std.specs.Prelude.{◌≡◌, ◌*◌, ◌≤◌, length};
 ghost use Rattle.frames.specs.Database.{database};
 ghost use Rattle.machine.specs.Reading.{split};

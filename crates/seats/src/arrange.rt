@@ -8,7 +8,7 @@ use crate::marks::{find_marked, hypothesis_offset, next_unmarked};
 use frames::fields;
 
 // A seat that is taken: the row of its entry, and from which row on the next unmarked entry is sought.
-#[derive(Drop)]
+#[derive(Clone, Copy)]
 pub struct Taken {
     pub row: usize,
     pub next: usize,

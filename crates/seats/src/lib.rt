@@ -1,5 +1,7 @@
 // A port of parts of src/verify.rs of metamath-rs 0.3.9 (execute_step's marks), changed (see NOTICE).
 // Which entry of the stack goes to which hypothesis of an assertion: an entry with a mark to the hypothesis that it names, the others to the rest in order.
+#![tactic(auto)]
+
 pub mod arrange;
 pub mod marks;
 
@@ -11,7 +13,7 @@ use crate::marks::{check_marks, none_marked};
 use machine::Refusal;
 
 // Every hypothesis has its entry, or the marks are refused.
-#[derive(Drop)]
+#[derive(Clone, Copy)]
 pub enum Seated {
     Done,
     Refused(Refusal),

@@ -1,5 +1,7 @@
 // How long the text of a recorded derivation is: one pass over the tree entries stores the size of each application in a table, at the number of its first entry.
 // A shared part is never walked twice. Sizes are told apart up to 65,538, so that no sum overflows.
+#![tactic(auto)]
+
 ghost use Rattle.std.specs.Prelude.{◌≡◌, ◌+◌, ◌≤◌, ◌<◌, min, length, get_or};
 ghost use Rattle.sizes.specs.Measured.{capped, offset_of, label_size_at, size_at, words_at, application_size, measured_from, Measures};
 

@@ -1,5 +1,7 @@
 // A port of parts of src/verify.rs of metamath-rs 0.3.9 (the split of a token in prepare_step), changed (see NOTICE).
 // Where the mark and the local label of a normal token stand in the proof's text: offsets that can be kept in a table, with nothing copied.
+#![tactic(auto)]
+
 ghost use Rattle.std.specs.Prelude.{◌≡◌, ◌∷◌, [], ◌+◌, ◌≤◌, ◌<◌, length};
 ghost use Rattle.frames.specs.Logic.{same};
 ghost use Rattle.machine.specs.Reading.{split};
@@ -9,7 +11,7 @@ ghost use Rattle.spans.specs.Spans.{Before, StandsFor};
 use tokens::find;
 
 // Where a part of a token stands in the text: `tag` is 0 where there is none, else one more than where it begins; `end` is where it ends.
-#[derive(Drop)]
+#[derive(Clone, Copy)]
 pub struct Span {
     pub tag: usize,
     pub end: usize,

@@ -1,6 +1,8 @@
 // A port of parts of src/verify.rs of metamath-rs 0.3.9 (the letters in verify_proof), changed (see NOTICE).
 // How the bytes of a proof's text are read: dividers and bad bytes, the class of a letter, where a sign stands; and (parts.rt) the three parts of
 // a normal token, each a part of the lent token.
+#![tactic(auto)]
+
 pub mod parts;
 
 ghost use Rattle.std.specs.Prelude.{◌≡◌};

@@ -1,5 +1,7 @@
 // A port of parts of src/verify.rs of metamath-rs 0.3.9 (verify_segment), changed (see NOTICE).
 // What is told of a proof's answer, and how much of what is lent is used.
+#![tactic(auto)]
+
 ghost use Rattle.std.specs.Prelude.{◌≡◌, min};
 ghost use Rattle.machine.specs.Memory.{limited};
 ghost use Rattle.memory.specs.Shown.{room_of};
@@ -10,7 +12,7 @@ use findings::Answer;
 use memory::Limits;
 
 // What the bench answers: number, place, completed steps.
-#[derive(Drop)]
+#[derive(Clone, Copy)]
 pub struct Told {
     pub number: usize,
     pub place: usize,

@@ -1,5 +1,7 @@
 // A port of parts of src/verify.rs of metamath-rs 0.3.9 (map_var), changed (see NOTICE).
 // The numbering of variables: a table, indexed by symbol number, of each variable's number plus 1, or 0 where it has none yet.
+#![tactic(auto)]
+
 ghost use Rattle.std.specs.Prelude.{◌≡◌, [], ◌∷◌, ◌<◌};
 ghost use Rattle.frames.specs.Database.{statement_at};
 ghost use Rattle.machine.specs.Run.{members};

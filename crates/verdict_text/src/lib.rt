@@ -1,5 +1,7 @@
 // The line that tells a verdict on a frame file: `good SYMBOLS STATEMENTS` or `refused NUMBER PLACE`, and LF.
 // `put` puts it into a lent array, and is proved to put what the definition says; `print` writes it.
+#![tactic(auto)]
+
 ghost use Rattle.std.specs.Prelude.{◌≡◌, ◌+◌, ◌≤◌, length, take};
 ghost use Rattle.io.specs.Counts.{IsPrefixLen};
 ghost use Rattle.verdict_text.specs.Text.{Appended, decimal, line, good_line, refused_line, line_of};

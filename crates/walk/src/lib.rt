@@ -1,5 +1,7 @@
 // A port of parts of src/verify.rs of metamath-rs 0.3.9 (verify_segment), changed (see NOTICE).
 // The walk over all $p of a file: the file is checked once, and each $p is answered in file order.
+#![tactic(auto)]
+
 ghost use Rattle.std.specs.Prelude.{◌≡◌, ◌≤◌, ◌<◌, length};
 ghost use Rattle.resolve.specs.Filed.{Filed};
 ghost use Rattle.proving.specs.Ours.{Ours};
@@ -17,7 +19,7 @@ use proving::statement::answer_statement;
 use proving::{hypothesis_seats, image_sets, label_words, local_labels, offsets, pair_sets};
 
 // The file is turned away, or all its $p are answered: so many.
-#[derive(Drop)]
+#[derive(Clone, Copy)]
 pub enum Walked {
     Refused { why: Refusal, place: usize },
     Answered(usize),

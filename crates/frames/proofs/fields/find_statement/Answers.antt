@@ -1,0 +1,12 @@
+-- `frames::fields::find_statement` meets its contract: what the search finds, as a number of its own kind.
+use Rattle.frames.proofs.Found.{finds-at, finds-unused}
+use Rattle.frames.specs.Database.{statement_at}
+use mathlib.Core.Path.{sym}
+use Rattle.frames.proofs.fields.find_statement.Goals as goal
+
+pub returns-in-At : goal.returns-in-At
+unfolding statement_at
+returns-in-At c = let a = c.args in finds-at a.file.now a.statements.now a.label.now _ _ c.in-At.is c.find.ensures
+
+pub returns-in-Nothing : goal.returns-in-Nothing
+returns-in-Nothing c = let a = c.args in sym (finds-unused a.file.now a.statements.now a.label.now _ c.in-Nothing.is c.find.ensures)
