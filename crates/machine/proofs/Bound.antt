@@ -49,6 +49,7 @@ module _ (db : Database) where
   bound-paired : {h : ℕ} {x : Proved} {hs : List ℕ} {xs : List Proved} → Apart hs → Paired h x hs xs
       → is_float (statement_of db h) ≡ true → bound db hs xs (floated (statement_of db h)) ≡ x.expression.symbols
   unfolding bound
+  bound-paired none q f = elim q [ ]
   bound-paired (also a later) here f = sym (pick_first _ (sym (binds-self _ f)) refl)
   bound-paired (also a later) (there q) f =
       sym (pick_second _ (a _ (paired-member q) f) (sym (bound-paired later q f)))
