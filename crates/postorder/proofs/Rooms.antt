@@ -226,7 +226,8 @@ module _ (db : Database) (p : ℕ) (room room' : Room) where
   on-bytes : {s s' : State} (bs : List ℕ) → Abreast s s' → Abreast (on_bytes db p room s bs) (on_bytes db p room' s' bs)
   unfolding on_bytes
   on-bytes [] e = e
-  on-bytes (b ∷ bs) e = on-bytes bs (on-byte b e)
+  on-bytes {s = s} {s' = s'} (b ∷ bs) e =
+      on-bytes {s = on_byte db p room s b} {s' = on_byte db p room' s' b} bs (on-byte b e)
 
   last_byte : (s : State) → Abreast (on_end db p room s) (on_end db p room' s)
   unfolding on_end
