@@ -45,5 +45,6 @@ module _ {f entries : List ℕ} where
 
   -- an application's entries end before n
   pub recorded-below : {kept : Applications} {n from : ℕ} {tree : Tree} → Recorded f entries kept n → Among from tree kept → from < n
+  recorded-below (start e) among = elim among [ ]
   recorded-below (further r at e ds is) (last g h) = omega arith
   recorded-below (further r at e ds is) (earlier i) = let l = recorded-below r i in omega arith

@@ -1,0 +1,16 @@
+-- `resolve::is_ambiguous` meets its contract: the local label, if there is one, is sought (`tells-ambiguous`, `tells-new`, `tells_none`).
+use Rattle.resolve.proofs.Resolving.{tells-ambiguous, tells-new, tells_none}
+use mathlib.Core.Path.{◌∙◌, sym}
+use Rattle.resolve.proofs.is_ambiguous.Goals as goal
+
+pub find_named-requires : goal.find_named-requires
+find_named-requires c = c.requires.labelled
+
+pub returns-in-Statement : goal.returns-in-Statement
+returns-in-Statement c = let a = c.args in tells-ambiguous a.file.now a.statements.now a.token.now (sym c.has_local.ensures ∙ c.if-has_local.true) c.local_label-local.ensures c.find_named.ensures c.in-Statement.is
+
+pub returns-in-NoStatement : goal.returns-in-NoStatement
+returns-in-NoStatement c = let a = c.args in tells-new a.file.now a.statements.now a.token.now (sym c.has_local.ensures ∙ c.if-has_local.true) c.local_label-local.ensures c.find_named.ensures c.in-NoStatement.is
+
+pub returns : goal.returns
+returns c = let a = c.args in tells_none a.file.now a.statements.now a.token.now (sym c.has_local.ensures ∙ c.if-has_local.false)

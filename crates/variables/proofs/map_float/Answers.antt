@@ -1,0 +1,10 @@
+-- `variables::map_float` meets its contract: a $f has its variable, any other statement none.
+use Rattle.variables.proofs.Floats.{all_one, all_same, float-no, float-yes}
+use Rattle.variables.proofs.Pairs.{all_none}
+use Rattle.variables.proofs.map_float.Goals as goal
+
+pub returns-then-kind-eq2 : goal.returns-then-kind-eq2
+returns-then-kind-eq2 c = let a = c.args in all_same (float-yes a.file.now a.statements.now a.h.0 _ _ _ c.statement_offset-at.ensures c.kind.ensures c.if-kind-eq2.true c.variable-v.ensures) (all_one c.map_var.ensures)
+
+pub returns : goal.returns
+returns c = let a = c.args in all_same (float-no a.file.now a.statements.now a.h.0 _ _ c.statement_offset-at.ensures c.kind.ensures c.if-kind-eq2.false) (all_none a.numbers.now a.count)
