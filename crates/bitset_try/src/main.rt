@@ -4,26 +4,25 @@
 ghost use Rattle.std.specs.Prelude.{◌≡◌, true, false, ◌≤◌, ◌<◌};
 
 use bitset::{Bitset, BitsetIter, Member};
-use libc::STDOUT_FILENO;
 
 // A word for an answer, with a space after it.
 fn say(answer: bool) {
     if answer {
-        io::write_all(STDOUT_FILENO, b"yes ");
+        io::write_all(1, b"yes ");
     } else {
-        io::write_all(STDOUT_FILENO, b"no ");
+        io::write_all(1, b"no ");
     }
 }
 
 // A number, with a space after it.
 fn number(n: usize) {
-    io::print_decimal(STDOUT_FILENO, n as u64);
-    io::write_all(STDOUT_FILENO, b" ");
+    io::print_decimal(1, n as u64);
+    io::write_all(1, b" ");
 }
 
 // The end of a line.
 fn end_line() {
-    io::write_all(STDOUT_FILENO, b"\n");
+    io::write_all(1, b"\n");
 }
 
 // The members that are left, in the order in which they come, and the end of the line.
@@ -64,8 +63,8 @@ fn limit(n: usize) {
 
 // Whether a number is a member once it was added: so where it is below BITS, and else not, whatever the set.
 fn added(set: Bitset, n: usize) -> bool
-    ensures* below { do bits ← (⟦Bitset::BITS⟧).entry; ⌜ (n < bits → result ≡ true) ⌝ }
-    ensures* past { do bits ← (⟦Bitset::BITS⟧).entry; ⌜ (bits ≤ n → result ≡ false) ⌝ }
+    ensures below { n < Bitset.BITS → result ≡ true }
+    ensures past { Bitset.BITS ≤ n → result ≡ false }
 {
     let more = set.set_bit(n);
     more.has_bit(n)

@@ -14,8 +14,11 @@ pub returns-then-bit-lt-BITS : goal.returns-then-bit-lt-BITS
 unfolding insert
 returns-then-bit-lt-BITS c =
     let a = c.args in
-    record { adds = added-promise _ _ _
-          (ap (λ (m : ℕ). set a.self.words (a.bit / 64) (bit_or (get_or a.self.words (a.bit / 64) 0) m)) c.mask.ensures); words = (array-words 4 c.args.self.words (search rules) (λ i. search rules)) }
+    record {
+      adds = added-promise _ _ _
+          (ap (λ (m : ℕ). set a.self.words (a.bit / 64) (bit_or (get_or a.self.words (a.bit / 64) 0) m)) c.mask.ensures);
+      words = (array-words 4 c.args.self.words (search rules) (λ i. search rules));
+    }
 
 pub returns-else-bit-lt-BITS : goal.returns-else-bit-lt-BITS
 returns-else-bit-lt-BITS c =
