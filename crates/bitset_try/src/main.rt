@@ -5,24 +5,27 @@ ghost use Rattle.std.specs.Prelude.{◌≡◌, true, false, ◌≤◌, ◌<◌};
 
 use bitset::{Bitset, BitsetIter, Member};
 
+// The descriptor of standard output.
+const STDOUT_FILENO: i32 = 1;
+
 // A word for an answer, with a space after it.
 fn say(answer: bool) {
     if answer {
-        io::write_all(1, b"yes ");
+        io::write_all(STDOUT_FILENO, b"yes ");
     } else {
-        io::write_all(1, b"no ");
+        io::write_all(STDOUT_FILENO, b"no ");
     }
 }
 
 // A number, with a space after it.
 fn number(n: usize) {
-    io::print_decimal(1, n as u64);
-    io::write_all(1, b" ");
+    io::print_decimal(STDOUT_FILENO, n as u64);
+    io::write_all(STDOUT_FILENO, b" ");
 }
 
 // The end of a line.
 fn end_line() {
-    io::write_all(1, b"\n");
+    io::write_all(STDOUT_FILENO, b"\n");
 }
 
 // The members that are left, in the order in which they come, and the end of the line.

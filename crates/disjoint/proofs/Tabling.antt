@@ -31,12 +31,12 @@ row-member table a b h =
     ∙ ap (bit (get_or table ((256 * a + b) / 64) 0)) spot
 
 -- the members of a pair are members of the pairs
-pub pair_left : {qs : List (ℕ × ℕ)} {q : ℕ × ℕ} → q ∈ qs → q.0 ∈ members qs
+pub pair_left : {q : ℕ × ℕ} {qs : List (ℕ × ℕ)} → q ∈ qs → q.0 ∈ members qs
 unfolding members
 pair_left (Memᴰ.head e) = Memᴰ.head (ap (λ (q : ℕ × ℕ). q.0) e)
 pair_left (Memᴰ.tail m) = Memᴰ.tail (Memᴰ.tail (pair_left m))
 
-pub pair-right : {qs : List (ℕ × ℕ)} {q : ℕ × ℕ} → q ∈ qs → q.1 ∈ members qs
+pub pair-right : {q : ℕ × ℕ} {qs : List (ℕ × ℕ)} → q ∈ qs → q.1 ∈ members qs
 unfolding members
 pair-right (Memᴰ.head e) = Memᴰ.tail (Memᴰ.head (ap (λ (q : ℕ × ℕ). q.1) e))
 pair-right (Memᴰ.tail m) = Memᴰ.tail (Memᴰ.tail (pair-right m))

@@ -8,7 +8,10 @@ ghost use Rattle.verdict_text.specs.Text.{line_of};
 ghost use Rattle.framecheck.specs.Program.{answer_of};
 
 use frames::{Refusal, Verdict};
-use libc::{STDIN_FILENO, STDOUT_FILENO};
+
+// The descriptors of standard input and output.
+const STDIN_FILENO: i32 = 0;
+const STDOUT_FILENO: i32 = 1;
 
 // Room for one byte more than the program takes, so that a longer input is seen.
 fn room() -> [u8; 65537]

@@ -4,8 +4,11 @@
 
 ghost use Rattle.std.specs.Prelude.{◌≡◌, ◌<◌, length};
 
-use libc::{STDIN_FILENO, STDOUT_FILENO};
 use std::num::wrapping_add_usize;
+
+// The descriptors of standard input and output.
+const STDIN_FILENO: i32 = 0;
+const STDOUT_FILENO: i32 = 1;
 
 // Where the replay stands: the place in the list, and how many bytes the unpacked file has.
 #[derive(Clone, Copy)]

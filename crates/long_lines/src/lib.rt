@@ -12,13 +12,16 @@ ghost use Rattle.long_lines.specs.Writing.{Within, Taken};
 use filecheck::check;
 use frames::numbers::StatementNo;
 use frames::{Refusal, Verdict, fields};
-use libc::{STDIN_FILENO, STDOUT_FILENO};
 use lines::{add_text, then_number, then_text, then_two};
 use long::long_statement;
 use packed::pool::Grown;
 use proving::offsets;
 use reply::{all_read, input_room, is_provable, places_room, pool_room, stack_room};
 use told::Told;
+
+// The descriptors of standard input and output.
+const STDIN_FILENO: i32 = 0;
+const STDOUT_FILENO: i32 = 1;
 
 // The most tree entries that are used.
 fn tree_room() -> [u64; 131072]

@@ -10,9 +10,12 @@ use frames::numbers::SymbolNo;
 use frames::record::is_assertion;
 use frames::refer::entry;
 use frames::{Verdict, fields};
-use libc::{STDIN_FILENO, STDOUT_FILENO};
 use packed::images;
 use std::num::{wrapping_add_usize, wrapping_sub_usize};
+
+// The descriptors of standard input and output.
+const STDIN_FILENO: i32 = 0;
+const STDOUT_FILENO: i32 = 1;
 
 // Room for a file of at most 65,536 bytes, and one byte more.
 fn file_room() -> [u8; 65537]

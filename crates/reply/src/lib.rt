@@ -18,11 +18,14 @@ use answers::{number_in, place_in, steps_in};
 use filecheck::check;
 use frames::numbers::StatementNo;
 use frames::{Verdict, fields};
-use libc::{STDIN_FILENO, STDOUT_FILENO};
 use lines::{put_answer, put_checked, put_refused};
 use packed::pool::Grown;
 use proving::offsets;
 use walk::{Walked, verify_all};
+
+// The descriptors of standard input and output.
+const STDIN_FILENO: i32 = 0;
+const STDOUT_FILENO: i32 = 1;
 
 // Room for one byte more than the program takes, so that a longer input is seen.
 pub fn input_room() -> [u8; 65537]

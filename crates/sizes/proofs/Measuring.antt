@@ -113,7 +113,7 @@ module _ {f : List ℕ} {kept : Applications} {n : ℕ} {sizes : List ℕ} (good
           get_or-set_other sizes m from v 0 (λ e. omega arith) ∙ so_far.size from t i
 
 -- what is recorded ends where it ends
-onward-most : {f entries : List ℕ} {all kept : Applications} {end n : ℕ} → Onward f entries all end kept n → n ≤ end
+onward-most : {f entries : List ℕ} {all : Applications} {end : ℕ} {kept : Applications} {n : ℕ} → Onward f entries all end kept n → n ≤ end
 onward-most (done e) = omega arith
 onward-most (then loc is ds e rest) = let l = onward-most rest in omega arith
 
@@ -133,10 +133,10 @@ module _ (f entries : List ℕ) (n : ℕ) where
       rw less (sym (pick_first _ (below-yes inside) refl))
 
 -- the pass from n on measures what is recorded from n on
-measured-onward : {f entries : List ℕ} {all kept : Applications} {end n : ℕ} (turns : ℕ) (sizes : List ℕ) → GoodFile f → Onward f entries all end kept n
+measured-onward : {f entries : List ℕ} {all : Applications} {end : ℕ} {kept : Applications} {n : ℕ} (turns : ℕ) (sizes : List ℕ) → GoodFile f → Onward f entries all end kept n
     → end ≤ length sizes → end ≤ n + turns → Sized f kept n sizes → Sized f all end (measured_from f entries end turns n sizes)
 measured-onward {f} {entries} {end = end} {n} turns sizes good (done e) room enough so_far = rw (measured-end f entries end turns n sizes (omega arith), ← e) so_far
-measured-onward {f} {entries} {all} {kept} {end} {n} turns sizes good (then {next = next} {a = a} {trees = trees} loc is ds e rest) room enough so_far =
+measured-onward {f} {entries} {all} {end} {kept} {n} turns sizes good (then {next = next} {a = a} {trees = trees} loc is ds e rest) room enough so_far =
     let most = onward-most rest in
     let size = application_size f entries sizes n in
     let moved : n + 1 + words_at f entries n ≡ next = ap (λ (k : ℕ). n + 1 + k) (located-words good so_far entries n loc is) ∙ sym e in

@@ -16,7 +16,7 @@ use Rattle.facts.proofs.GoodFacts.{good-file-facts}
 use Rattle.postorder.specs.LongForm.{post_order, post_orders}
 use Rattle.packed.specs.Lists.{Located}
 use Rattle.resolve.proofs.Filing.{located-statement}
-use Rattle.tree.specs.Recorded.{Applications, Among, last, earlier, Within, Denotes, hypothesis, application, DenotesAll, nothing, more, Recorded, further}
+use Rattle.tree.specs.Recorded.{start, Applications, Among, last, earlier, Within, Denotes, hypothesis, application, DenotesAll, nothing, more, Recorded, further}
 use Rattle.tree.proofs.Recording.{denotes-all-more}
 use Rattle.spell.specs.Words.{as_offset, offset_of, entries_from, words_below}
 
@@ -120,6 +120,7 @@ module _ {f entries : List ℕ} (good : GoodFile f) where
   -- an application that is recorded
   application-opened : {kept all : Applications} {n word : ℕ} {tree : Tree} (from : ℕ) → word ≡ 2 * from + 1 → Within kept all → Recorded f entries kept n → Among from tree kept
       → Opened f all entries word tree
+  application-opened from is within (start e) among = elim among [ ]
   application-opened {word} from is within (further {n = n} r loc there ds _) (last g h) =
       rw h at (node-opened {word = word} n (omega arith) loc there (denotes-all-more (λ x t i. within x t (earlier i)) ds))
   application-opened from is within (further r loc there ds _) (earlier i) = application-opened from is (λ x t j. within x t (earlier j)) r i

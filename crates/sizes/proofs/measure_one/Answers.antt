@@ -16,7 +16,7 @@ pub loop-i-smaller : goal.loop-i-smaller
 loop-i-smaller c = omega arith
 
 pub loop-i-preserved : goal.loop-i-preserved
-loop-i-preserved c = summed-more c.args.file.now c.args.tree.now c.args.sizes.now c.args.from c.loop-i.invariant (omega arith) c.word_at-word.ensures c.type_size.ensures c.add_capped-sum.ensures
+loop-i-preserved c = summed-more c.args.file.now c.args.tree.now c.args.sizes.now c.args.from c.loop-i.invariant (omega arith) c.word_at-word.ensures c.size_of.ensures c.add_capped-sum.ensures
 
 pub returns : goal.returns
 returns c = summed-all c.args.file.now c.args.tree.now c.args.sizes.now c.args.from c.loop-i.invariant (omega arith)

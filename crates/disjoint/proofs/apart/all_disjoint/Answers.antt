@@ -15,13 +15,13 @@ pub loop-a-init : goal.loop-a-init
 loop-a-init c = apart_none c.args.table.now (members c.args.y.words) _
 
 pub loop-a-smaller : goal.loop-a-smaller
-loop-a-smaller c = let e = c.next-step.ensures in let it = c.loop-a.it in let less = step_less (left it) c.in-At.a (sym c.in-At.is ∙ e.0) in let rest = ap length e.1 in omega arith
+loop-a-smaller c = let it = c.loop-a.it in let less = step_less (left it) c.in-At.a (sym c.in-At.is ∙ c.next-step.ensures.gives) in let rest = ap length c.next-step.ensures.leaves in omega arith
 
 pub loop-a-preserved : goal.loop-a-preserved
-loop-a-preserved c = let e = c.next-step.ensures in apart_more c.loop-a.invariant (sym c.in-At.is ∙ e.0) e.1 (sym c.if-includes.true ∙ row_told c.args.table.now (members c.args.y.words) _ c.row.ensures c.includes.ensures)
+loop-a-preserved c = apart_more c.loop-a.invariant (sym c.in-At.is ∙ c.next-step.ensures.gives) c.next-step.ensures.leaves (sym c.if-includes.true ∙ row_told c.args.table.now (members c.args.y.words) _ c.row.ensures c.includes.ensures)
 
 pub returns-else-includes : goal.returns-else-includes
-returns-else-includes c = let e = c.next-step.ensures in apart-stop c.loop-a.invariant (sym c.in-At.is ∙ e.0) e.1 (sym c.if-includes.false ∙ row_told c.args.table.now (members c.args.y.words) _ c.row.ensures c.includes.ensures) c.iter-it.ensures.starts
+returns-else-includes c = apart-stop c.loop-a.invariant (sym c.in-At.is ∙ c.next-step.ensures.gives) c.next-step.ensures.leaves (sym c.if-includes.false ∙ row_told c.args.table.now (members c.args.y.words) _ c.row.ensures c.includes.ensures) c.iter-it.ensures.starts
 
 pub returns : goal.returns
-returns c = let e = c.next-step.ensures in apart-done c.loop-a.invariant (sym c.in-Nothing.is ∙ e.0) c.iter-it.ensures.starts
+returns c = apart-done c.loop-a.invariant (sym c.in-Nothing.is ∙ c.next-step.ensures.gives) c.iter-it.ensures.starts

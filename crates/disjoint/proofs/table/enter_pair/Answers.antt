@@ -7,13 +7,13 @@ pub returns-then-b-le256 : goal.returns-then-b-le256
 returns-then-b-le256 c = enters-both c.args.numbers.now c.args.pair.left.0 c.args.pair.right.0 _ _ c.entry-a.ensures c.entry-b.ensures c.if-a-gt0.true c.if-b-gt0.true c.enter.ensures c.enter-then-b-le256.ensures
 
 pub returns-else-b-le256 : goal.returns-else-b-le256
-returns-else-b-le256 c = let l = c.entry-a.ensures in let r = c.entry-b.ensures in enters-nothing c.args.numbers.now c.args.pair.left.0 c.args.pair.right.0 c.args.table.now (λ a b p q h g. omega arith)
+returns-else-b-le256 c = enters-nothing c.args.numbers.now c.args.pair.left.0 c.args.pair.right.0 c.args.table.now (λ a b p q h g. omega arith)
 
 pub returns-else-b-gt0 : goal.returns-else-b-gt0
-returns-else-b-gt0 c = let l = c.entry-a.ensures in let r = c.entry-b.ensures in enters-nothing c.args.numbers.now c.args.pair.left.0 c.args.pair.right.0 c.args.table.now (λ a b p q h g. omega arith)
+returns-else-b-gt0 c = enters-nothing c.args.numbers.now c.args.pair.left.0 c.args.pair.right.0 c.args.table.now (λ a b p q h g. omega arith)
 
 pub returns-else-a-le256 : goal.returns-else-a-le256
-returns-else-a-le256 c = let l = c.entry-a.ensures in let r = c.entry-b.ensures in enters-nothing c.args.numbers.now c.args.pair.left.0 c.args.pair.right.0 c.args.table.now (λ a b p q h g. omega arith)
+returns-else-a-le256 c = enters-nothing c.args.numbers.now c.args.pair.left.0 c.args.pair.right.0 c.args.table.now (λ a b p q h g. omega arith)
 
 pub returns-else-a-gt0 : goal.returns-else-a-gt0
-returns-else-a-gt0 c = let l = c.entry-a.ensures in let r = c.entry-b.ensures in enters-nothing c.args.numbers.now c.args.pair.left.0 c.args.pair.right.0 c.args.table.now (λ a b p q h g. omega arith)
+returns-else-a-gt0 c = enters-nothing c.args.numbers.now c.args.pair.left.0 c.args.pair.right.0 c.args.table.now (λ a b p q h g. omega arith)

@@ -8,4 +8,4 @@ pub returns-then-end-n : goal.returns-then-end-n
 returns-then-end-n c = let a = c.args in puts_none a.label.now a.end a.out.now c.if-end-n.true
 
 pub returns : goal.returns
-returns c = let a = c.args in rw c.put_bytes.ensures (puts-label a.label.now a.end _ a.out.now c.put_space.new.0 refl (omega arith) c.requires c.put_space.ensures)
+returns c = let a = c.args in rw c.put_bytes.ensures (puts-label a.label.now a.end _ a.out.now c.put_space.new.out refl (omega arith) c.requires c.put_space.ensures)
