@@ -2,6 +2,6 @@
 // in file order; for a bad file `refused NUMBER PLACE`. A longer input is `refused 2 0`.
 #![tactic(auto)]
 
-fn main() {
-    reply::answer_input();
+fn main(rt: HostRuntime) {
+    reply::answer_input(&rt);
 }

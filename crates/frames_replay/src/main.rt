@@ -8,6 +8,7 @@ use std::num::wrapping_add_usize;
 
 // The descriptors of standard input and output.
 const STDIN_FILENO: i32 = 0;
+
 const STDOUT_FILENO: i32 = 1;
 
 // Where the replay stands: the place in the list, and how many bytes the unpacked file has.

@@ -185,10 +185,10 @@ fn write_reply(input: &[u8]) {
 }
 
 // Reads standard input and writes the reply to it; nothing where a read fails.
-pub fn answer_input() {
+pub fn answer_input(rt: &HostRuntime) {
     let mut input = input_room();
     let n = io::read_full(STDIN_FILENO, &mut input);
-    if all_read(n) {
+    if all_read(rt, n) {
         write_reply(&input[..n]);
     }
 }

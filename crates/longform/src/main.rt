@@ -2,6 +2,6 @@
 // `LABEL refused NUMBER PLACE STEPS`; for a bad file `refused NUMBER PLACE`. A longer input is `refused 2 0`.
 #![tactic(auto)]
 
-fn main() {
-    long_lines::answer_input();
+fn main(rt: HostRuntime) {
+    long_lines::answer_input(&rt);
 }

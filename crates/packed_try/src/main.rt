@@ -15,6 +15,7 @@ use std::num::{wrapping_add_usize, wrapping_sub_usize};
 
 // The descriptors of standard input and output.
 const STDIN_FILENO: i32 = 0;
+
 const STDOUT_FILENO: i32 = 1;
 
 // Room for a file of at most 65,536 bytes, and one byte more.
@@ -161,7 +162,7 @@ fn bind_one(
     let v = fields::variable(file, at);
     let room = pool.len();
     let text = entry(statements, source(p, i));
-    let answer = packed_c::packed_spell(file, symbols, text, pool, used, room);
+    let answer = packed_calls::packed_spell(file, symbols, text, pool, used, room);
     let end = kept(answer, used, room);
     let s = v.0;
     bind(froms, tos, sets, s, used, end, set_for(p, i));
@@ -208,7 +209,7 @@ fn others(
     let mut q = 0;
     while q < count {
         let at = entry(statements, q);
-        if packed_c::packed_is_substituted(file, symbols, at, froms, tos, pool, from, to) == 1 {
+        if packed_calls::packed_is_substituted(file, symbols, at, froms, tos, pool, from, to) == 1 {
             found = wrapping_add_usize(found, 1);
         }
         q += 1;
@@ -230,7 +231,7 @@ fn raws(
     let mut q = 0;
     while q < count {
         let at = entry(statements, q);
-        if packed_c::packed_is_spelled(file, symbols, at, pool, from, to) == 1 {
+        if packed_calls::packed_is_spelled(file, symbols, at, pool, from, to) == 1 {
             found = wrapping_add_usize(found, 1);
         }
         q += 1;
@@ -256,9 +257,9 @@ fn write_texts(
     used: usize,
 ) -> Texts {
     let room = pool.len();
-    let text = packed_c::packed_substitute(file, symbols, at, froms, tos, pool, used, room);
+    let text = packed_calls::packed_substitute(file, symbols, at, froms, tos, pool, used, room);
     let end = kept(text, used, room);
-    let raw = packed_c::packed_spell(file, symbols, at, pool, end, room);
+    let raw = packed_calls::packed_spell(file, symbols, at, pool, end, room);
     let last = kept(raw, end, room);
     Texts { end, last }
 }
@@ -280,7 +281,7 @@ fn tell(
     let last = texts.last;
     say_range(pool, 0, used);
     say_range(pool, used, end);
-    say(packed_c::packed_is_substituted(file, symbols, at, froms, tos, pool, used, end));
+    say(packed_calls::packed_is_substituted(file, symbols, at, froms, tos, pool, used, end));
     say(others(
         file, symbols, statements, count, froms, tos, pool, used, end,
     ));
@@ -314,11 +315,11 @@ fn try_limits(
     end: usize,
 ) {
     let short = wrapping_sub_usize(end, 1);
-    let less = packed_c::packed_substitute(file, symbols, at, froms, tos, pool, used, short);
-    say(truth(less == packed_c::FULL));
+    let less = packed_calls::packed_substitute(file, symbols, at, froms, tos, pool, used, short);
+    say(truth(less == packed_calls::FULL));
     bind(froms, tos, sets, s, 1, 0, Bitset::new());
-    let turned = packed_c::packed_substitute(file, symbols, at, froms, tos, pool, used, end);
-    say(truth(turned == packed_c::REFUSED));
+    let turned = packed_calls::packed_substitute(file, symbols, at, froms, tos, pool, used, end);
+    say(truth(turned == packed_calls::REFUSED));
 }
 
 // Tells the members of the set of the symbols as substituted.
@@ -331,14 +332,14 @@ fn tell_vars(file: &[u8], symbols: &[u32], at: u32, sets: &[u64]) {
 // whether a range that is turned round is refused.
 fn try_copy(pool: &mut [u8], used: usize, end: usize) {
     let room = pool.len();
-    let answer = packed_c::packed_copy(pool, end, room, used, end);
+    let answer = packed_calls::packed_copy(pool, end, room, used, end);
     let last = kept(answer, end, room);
     say_range(pool, end, last);
     let short = wrapping_sub_usize(last, 1);
-    let less = packed_c::packed_copy(pool, end, short, used, end);
-    say(truth(less == packed_c::FULL));
-    let turned = packed_c::packed_copy(pool, end, room, end, used);
-    say(truth(turned == packed_c::REFUSED));
+    let less = packed_calls::packed_copy(pool, end, short, used, end);
+    say(truth(less == packed_calls::FULL));
+    let turned = packed_calls::packed_copy(pool, end, room, end, used);
+    say(truth(turned == packed_calls::REFUSED));
 }
 
 // Writes the two texts, tells what they are and what a copy of the first is, and answers where the first ends.

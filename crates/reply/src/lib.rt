@@ -21,6 +21,7 @@ use frames::{Verdict, fields};
 use lines::{put_answer, put_checked, put_refused};
 use packed::pool::Grown;
 use proving::offsets;
+use std::io::Read;
 use walk::{Walked, verify_all};
 
 // The descriptors of standard input and output.
@@ -222,19 +223,22 @@ fn write_reply(input: &[u8]) {
 }
 
 // All of standard input was read: its n bytes fill the room for it, or one more read meets its end. (io::read_full stops at a failed read as at the end.)
-pub fn all_read(n: usize) -> bool {
+pub fn all_read(rt: &HostRuntime, n: usize) -> bool {
     if n == 65537 {
         return true;
     }
     let mut byte = [0u8; 1];
-    libc::read(STDIN_FILENO, &mut byte) == 0
+    match rt.stdin().read(&mut byte) {
+        Ok(got) => got == 0,
+        Err(_) => false,
+    }
 }
 
 // Reads standard input and writes the reply to it; nothing where a read fails.
-pub fn answer_input() {
+pub fn answer_input(rt: &HostRuntime) {
     let mut input = input_room();
     let n = io::read_full(STDIN_FILENO, &mut input);
-    if all_read(n) {
+    if all_read(rt, n) {
         write_reply(&input[..n]);
     }
 }

@@ -104,6 +104,7 @@ module _ {text stack : List ℕ} where
 
 -- what is shown of each entry, for the i-th one
 pub nth-shown : {P : ℕ → Entry → Type 0} {k i : ℕ} {es : List Entry} {e : Entry} → Along P k es → Nth es i e → P (k + i) e
+nth-shown ends nth = elim nth [ ]
 nth-shown {k = k} (next s p more) (first {i} z) = let g : k + i ≡ k = omega arith in rw g p
 nth-shown {k = k} (next {n = n} s p more) (later {i} {j} g nth) = let q : k + j ≡ n + i = omega arith in rw q (nth-shown more nth)
 

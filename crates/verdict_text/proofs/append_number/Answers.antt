@@ -12,14 +12,14 @@ use Rattle.verdict_text.proofs.append_number.Goals as goal
 pub append-requires : goal.append-requires
 append-requires c =
     let dec = c.decimal-k in
-    let few : dec.result ≤ 20 = few-digits dec.result c.args.n dec.ensures.1.0 (search rules) in
-    omega (arith, dec.ensures.0.1)
+    let few : dec.result ≤ 20 = few-digits dec.result c.args.n dec.ensures.len (search rules) in
+    omega (arith, dec.ensures.in_bounds.1)
 
 pub returns : goal.returns
 returns c =
     let put = c.append in
     let dec = c.decimal-k in
     let n = c.args.n in
-    let few : dec.result ≤ 20 = few-digits dec.result n dec.ensures.1.0 (search rules) in
-    let text : take dec.result dec.new.1.0 ≡ decimal n = dec.ensures.1.1 ∙ decimal-digits 20 dec.result n dec.ensures.1.0 few in
-    record { appended = rw text at put.ensures; upper_bound = omega (arith, dec.ensures.0.1, put.ensures.next-is) }
+    let few : dec.result ≤ 20 = few-digits dec.result n dec.ensures.len (search rules) in
+    let text : take dec.result dec.new.out ≡ decimal n = dec.ensures.digits ∙ decimal-digits 20 dec.result n dec.ensures.len few in
+    record { appended = rw text at put.ensures; upper_bound = omega (arith, dec.ensures.in_bounds.1, put.ensures.next-is) }

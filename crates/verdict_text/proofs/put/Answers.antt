@@ -14,7 +14,7 @@ told : (v : Verdict) (why : Refusal) (place n : ℕ) (text : List ℕ) → v ≡
 told v why place n text e m t = t ∙ ap (λ (k : ℕ). refused_line k place) m ∙ ap line_of (sym e)
 
 pub returns-in-Good : goal.returns-in-Good
-returns-in-Good c = record { prefix_len = c.good2.ensures.0; out_after = cc }
+returns-in-Good c = record { prefix_len = c.good.ensures.prefix_len; out_after = cc }
 
 pub returns-in-Refused : goal.returns-in-Refused
 returns-in-Refused c =

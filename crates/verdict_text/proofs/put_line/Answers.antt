@@ -10,5 +10,5 @@ use Rattle.verdict_text.proofs.put_line.Goals as goal
 pub returns : goal.returns
 returns c =
     let put = c.append in
-    let fits : put.result ≤ length put.new.0 = omega arith in
-    record { prefix_len = (fits, sym (length-take-le put.result put.new.0 fits)); out_after = cc }
+    let fits : put.result ≤ length put.new.out = omega arith in
+    record { prefix_len = (fits, sym (length-take-le put.result put.new.out fits)); out_after = cc }

@@ -1,0 +1,16 @@
+-- `apply::step::apply_seated` meets its contract: the hypotheses first (`seated-refused`, `seated-fine`).
+use Rattle.apply.proofs.Steps.{seated-fine, seated-refused}
+use native.Mathlib.Omega.{arith}
+use Rattle.apply.proofs.step.apply_seated.Goals as goal
+
+pub process_hyps-requires : goal.process_hyps-requires
+process_hyps-requires c = ((omega (arith, c.requires.used_le_pool.0.0, c.requires.used_le_pool.0.1), (c.requires.ranged.1.0, c.requires.ranged.1.1)), c.requires.ranged.0)
+
+pub apply_checked-requires : goal.apply_checked-requires
+apply_checked-requires c = record { used_le_pool = c.requires.used_le_pool; ranged = c.process_hyps.ensures.ranged }
+
+pub returns-in-Refused : goal.returns-in-Refused
+returns-in-Refused c = seated-refused (rw c.in-Refused.is at c.process_hyps.ensures)
+
+pub returns-in-Fine : goal.returns-in-Fine
+returns-in-Fine c = seated-fine (rw c.in-Fine.is at c.process_hyps.ensures) c.apply_checked.ensures

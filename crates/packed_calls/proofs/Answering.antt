@@ -1,0 +1,98 @@
+-- How a call is answered: refused, with the pool as it was, or by the number of what was added or compared.
+use Prim.Native.Nat.{ℕ, ◌≤◌, ◌<◌}
+use mathlib.Core.Path.{◌≡◌, refl, sym, ◌∙◌, ap}
+use mathlib.Core.Bool.{Bool, true, false}
+use mathlib.Core.List.{List}
+use lib.ListN.{length}
+use Rattle.frames.specs.Logic.{both, same}
+use Rattle.frames.proofs.Chains.{pick_first, pick_second, at_most-yes, at_most-no}
+use Rattle.frames.proofs.Tells.{true-not-false}
+use Rattle.packed.specs.Pool.{range, grown, Adds, Untouched}
+use Rattle.packed.specs.declared.pool.Grown.{Grown}
+use Rattle.packed.proofs.Adding.{adds_same}
+use Rattle.packed_calls.specs.Answers.{refused, number_of, truth_of, roomed, lies, compared, Answered, Says, Copies}
+
+-- what is said of lists of symbols: nothing where the ranges are wrong, and else what is said of the value
+module _ {A : Type 0} {right : Bool} {number : A → ℕ} {said : A → Type 0} {answer : ℕ} where
+  says-refused : right ≡ false → Says right number said answer
+  says-refused e = record { says = λ t. absurd (true-not-false t e) }
+
+  says-told : (x : A) → answer ≡ number x → said x → Says right number said answer
+  says-told x e s = record { says = λ t. (x, (e, s)) }
+
+-- the ranges are wrong
+pub answered-refused : {right : Bool} {said : Grown → Type 0} (bytes : List ℕ) (used limit : ℕ) (pool : List ℕ) → right ≡ false
+    → Answered right bytes used limit pool pool refused × Says right number_of said refused
+answered-refused bytes used limit pool e = (
+  record { answers = pick_second _ e refl; adds = λ t. absurd (true-not-false t e); leaves = λ f. refl },
+  says-refused e,
+)
+
+-- they are right, and the bytes were added
+pub answered-added : {right : Bool} {said : Grown → Type 0} {bytes : List ℕ} {used limit : ℕ} {pool pool' : List ℕ} {g : Grown} {n : ℕ}
+    → right ≡ true → Adds bytes used limit pool pool' g → said g → n ≡ number_of g
+    → Answered right bytes used limit pool pool' n × Says right number_of said n
+answered-added {bytes = bytes} {used} {limit} {pool} {pool'} {g} e a s m = (
+  record {
+    answers = pick_first _ e (m ∙ ap number_of a.answers);
+    adds = λ t. rw a.answers at a;
+    leaves = λ f. absurd (true-not-false e f);
+  },
+  says-told g m s,
+)
+
+pub compared-refused : {right : Bool} {said : Bool → Type 0} (from to : ℕ) (pool text : List ℕ) → right ≡ false
+    → (refused ≡ compared right from to pool text) × Says right truth_of said refused
+unfolding compared
+compared-refused from to pool text e = (pick_second _ e refl, says-refused e)
+
+pub compared-told : {right t : Bool} {said : Bool → Type 0} {n : ℕ} (from to : ℕ) (pool text : List ℕ) → right ≡ true
+    → t ≡ same (range from to pool) text → said t → n ≡ truth_of t → (n ≡ compared right from to pool text) × Says right truth_of said n
+unfolding compared
+compared-told {t = t} from to pool text e s l m = (pick_first _ e (m ∙ ap truth_of s), says-told t m l)
+
+-- a copy of a range that spells a list adds the list's packed text
+pub copies : {from to used limit : ℕ} {pool pool' : List ℕ} {g : Grown} → Adds (range from to pool) used limit pool pool' g
+    → Untouched pool pool' g → Copies from to used limit pool pool' g
+copies a u = record { adds = λ db xs e. adds_same e a; full = u }
+
+-- two tests at once
+pub both_yes : {t u : Bool} → t ≡ true → u ≡ true → both t u ≡ true
+unfolding both
+both_yes e h = rw e h
+
+pub first-no : {t : Bool} (u : Bool) → t ≡ false → both t u ≡ false
+unfolding both
+first-no u e = rw e refl
+
+pub second-no : (t : Bool) {u : Bool} → u ≡ false → both t u ≡ false
+unfolding both
+second-no true e = e
+second-no false e = refl
+
+-- the tests of the ranges
+module _ (used limit : ℕ) (pool : List ℕ) where
+  pub roomed-yes : used ≤ limit → limit ≤ length pool → roomed used limit pool ≡ true
+  unfolding roomed
+  roomed-yes a b = both_yes (at_most-yes a) (at_most-yes b)
+
+  pub limit-short : limit < used → roomed used limit pool ≡ false
+  unfolding roomed
+  limit-short a = first-no _ (at_most-no a)
+
+  pub pool-short : length pool < limit → roomed used limit pool ≡ false
+  unfolding roomed
+  pool-short a = second-no _ (at_most-no a)
+
+module _ (from to size : ℕ) where
+  pub lies-yes : from ≤ to → to ≤ size → lies from to size ≡ true
+  unfolding lies
+  lies-yes a b = both_yes (at_most-yes a) (at_most-yes b)
+
+  pub lies-turned : to < from → lies from to size ≡ false
+  unfolding lies
+  lies-turned a = first-no _ (at_most-no a)
+
+  pub lies-past : size < to → lies from to size ≡ false
+  unfolding lies
+  lies-past a = second-no _ (at_most-no a)
