@@ -1,0 +1,19 @@
+-- `reply::reply_file` meets its contract: by the verdict, the line of the refusal or the lines of a good file.
+use Rattle.bench.proofs.Checking.{statements-fit, statements-length}
+use Rattle.reply.proofs.Whole.{text-refused, text-good, listed}
+use Rattle.reply.proofs.reply_file.Goals as goal
+
+pub slice_bounds-statements-end : goal.slice_bounds-statements-end
+slice_bounds-statements-end c = statements-fit c.check.ensures c.in-Good.is c.offsets-statements.ensures
+
+pub slice_bounds-reply_good-end : goal.slice_bounds-reply_good-end
+slice_bounds-reply_good-end c = statements-length c.check.ensures c.in-Good.is
+
+pub reply_good-requires : goal.reply_good-requires
+reply_good-requires c = listed c.check.ensures c.in-Good.is
+
+pub returns-in-Refused : goal.returns-in-Refused
+returns-in-Refused c = text-refused c.check.ensures c.in-Refused.is c.number.ensures c.put_refused.ensures
+
+pub returns-in-Good : goal.returns-in-Good
+returns-in-Good c = text-good c.check.ensures c.in-Good.is c.reply_good.ensures
