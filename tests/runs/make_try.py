@@ -41,21 +41,20 @@ def opened(own, modules):
                 seen.add(alias)
                 unfold.append(alias)
                 items.append(n if alias == n else f'{n} as {alias}')
-            where = f'Rattle·{crate}·specs.specs.{mod}' if crate == own else f'Rattle·{crate}.specs.{mod}'
-            use.append(f"use {where}.{{{', '.join(items)}}}")
+            use.append(f"use Rattle.{crate}.specs.{mod}.{{{', '.join(items)}}}")
     return use, unfold
 
 
 def facts(path, own, modules, head, lists):
     use, unfold = opened(own, modules)
-    out = head + ['use mathlib.Core.Path.{_≡_, refl}', 'use mathlib.Core.List.{map}'] + use
+    out = head + ['use mathlib.Core.Path.{◌≡◌, refl}', 'use mathlib.Core.List.{map}'] + use
     for name, comment in lists:
         out += ['', f'-- {comment}', f'pub {name}-hold : map answered {name} ≡ map stated {name}', 'unfolding ' + ' '.join(unfold), f'{name}-hold = refl']
     open(path, 'w').write('\n'.join(out) + '\n')
 
 
 def rows(path, head, lists):
-    out = head + ['use mathlib.Core.List.{List, [], _∷_}', 'use Rattle·machine.specs.Files.{Row}', 'use Rattle·machine_try·specs.specs.Hex.{call}']
+    out = head + ['use Rattle.std.specs.Prelude.{List, [], ◌∷◌}', 'use Rattle.machine.specs.Files.{Row}', 'use Rattle.machine_try.specs.Hex.{call}']
     for name, comment, cases in lists:
         out += ['', f'-- {comment}', f'unfoldable pub {name} : List Row', f'{name} =']
         for i, c in enumerate(cases):
