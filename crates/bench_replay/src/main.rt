@@ -10,6 +10,7 @@ use std::num::wrapping_add_usize;
 
 // The descriptors of standard input and output.
 const STDIN_FILENO: i32 = 0;
+
 const STDOUT_FILENO: i32 = 1;
 
 // One call: where its file lies in the list, the statement, and how many bytes and words are lent.

@@ -21,6 +21,7 @@ use told::Told;
 
 // The descriptors of standard input and output.
 const STDIN_FILENO: i32 = 0;
+
 const STDOUT_FILENO: i32 = 1;
 
 // The most tree entries that are used.

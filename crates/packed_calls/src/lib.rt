@@ -83,13 +83,7 @@ fn truth(same: bool) -> usize
 }
 
 // Adds a copy of a range.
-pub fn packed_copy(
-    pool: &mut [u8],
-    used: usize,
-    limit: usize,
-    from: usize,
-    to: usize,
-) -> usize
+pub fn packed_copy(pool: &mut [u8], used: usize, limit: usize, from: usize, to: usize) -> usize
     ensures bytes { Answered (both (roomed used limit pool.old) (lies from to used)) (range from to pool.old) used limit pool.old pool.new result }
     ensures lists { Says (both (roomed used limit pool.old) (lies from to used)) number_of (Copies from to used limit pool.old pool.new) result }
 {

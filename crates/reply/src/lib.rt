@@ -26,6 +26,7 @@ use walk::{Walked, verify_all};
 
 // The descriptors of standard input and output.
 const STDIN_FILENO: i32 = 0;
+
 const STDOUT_FILENO: i32 = 1;
 
 // Room for one byte more than the program takes, so that a longer input is seen.
