@@ -2,8 +2,9 @@
 """Writes the examples that the definition of a run is computed on, inside the checker.
 
     make_try.py VECTORS                  the stored samples: crates/machine_try/specs and proofs
-    make_try.py VECTORS --all FOLDER N   files of N rows each in FOLDER (a copy of crates/machine_try), of 271 vectors and all
-                                         hand-worked runs; a file above 2,000 bytes has a part of its own
+    make_try.py VECTORS --all FOLDER N   files of N rows each in FOLDER (crates/machine_try of a copy of the repository, in which this
+                                         is run), of 271 vectors and all hand-worked runs; a file above 2,000 bytes has a part of its own.
+                                         specs/Lib.antt and proofs/Lib.antt of that copy then name the parts
 
 VECTORS has calls/calls.tsv with its files, and program/N.frames with N.expect. A row is a file, a statement number, the room
 lent, and the answer that document 01 gives. Also rewrites crates/machine/proofs/Rows.antt, whose `unfolding` lines name every
