@@ -48,6 +48,8 @@ counted-small : {L : ℕ} (a : Answer) → L ≤ 65536 → Counted L a → Small
 unfolding place steps
 counted-small (accepted L done consumed tree) few (all-steps e s) = small _ (omega arith) (omega arith)
 counted-small (refused why at done) few (some-steps q s) = small _ (omega arith) (omega arith)
+counted-small (turned_away why at) few counted = elim counted [ ]
+counted-small not_provable few counted = elim counted [ ]
 
 none-small : Small not_provable
 unfolding place steps

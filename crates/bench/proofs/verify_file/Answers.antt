@@ -1,0 +1,24 @@
+-- `verify_file` meets its contract: the file is checked, then the statement is answered.
+use Rattle.bench.proofs.Checking.{symbols-fit, symbols-length, statements-fit, statements-length, filed, good-says, refused_says}
+use Rattle.bench.proofs.verify_file.Goals as goal
+
+pub slice_bounds-symbols-end : goal.slice_bounds-symbols-end
+slice_bounds-symbols-end c = symbols-fit c.check.ensures c.in-Good.is c.offsets-symbols.ensures
+
+pub slice_bounds-verify_checked-end : goal.slice_bounds-verify_checked-end
+slice_bounds-verify_checked-end c = symbols-length c.check.ensures c.in-Good.is
+
+pub slice_bounds-statements-end : goal.slice_bounds-statements-end
+slice_bounds-statements-end c = statements-fit c.check.ensures c.in-Good.is c.offsets-statements.ensures
+
+pub slice_bounds-verify_checked-end-in-Good : goal.slice_bounds-verify_checked-end-in-Good
+slice_bounds-verify_checked-end-in-Good c = statements-length c.check.ensures c.in-Good.is
+
+pub verify_checked-requires : goal.verify_checked-requires
+verify_checked-requires c = filed c.check.ensures c.in-Good.is
+
+pub returns-in-Refused : goal.returns-in-Refused
+returns-in-Refused c = refused_says c.check.ensures _ _ c.in-Refused.is c.number.ensures
+
+pub returns-in-Good : goal.returns-in-Good
+returns-in-Good c = good-says c.check.ensures c.in-Good.is _ _ c.verify_checked.ensures
