@@ -1,0 +1,16 @@
+-- `long_form` meets its contract: the answer is that of the file, and all that was lent for the run is cleared.
+use mathlib.Core.Path.{◌∙◌}
+use Rattle.bench.proofs.Checking.{zeros-same}
+use Rattle.long.proofs.long_form.Goals as goal
+
+pub returns : goal.returns
+returns c =
+    record {
+      says = c.long_within-told.ensures;
+      tree-zero = c.clear_words64-3.ensures ∙ zeros-same c.tree-1.given;
+      zeroed = record {
+        pool-zero = c.clear_bytes.ensures ∙ zeros-same c.pool-1.given;
+        stack-zero = c.clear_words64.ensures ∙ zeros-same c.stack-1.given;
+        places-zero = c.clear_words64-2.ensures ∙ zeros-same c.places-1.given;
+      };
+    }
