@@ -1,10 +1,10 @@
 /* The calls of the bench for a caller in C or C++: a frame file's proofs are answered with number, place and steps, and a proof's long
  * form is written.
  *
- * Link with the static library of the crate bench_c (on x86-64: rt staticlib bench_c, which writes target/staticlib/libbench_c.a).
+ * Link with the static library of the crate bench_c (on x86-64: rt lib in crates/bench_c, which writes crates/bench_c/out/libbench_c.a).
  * The library calls nothing and keeps nothing between calls. Its own tables are on the stack, of which bench_verify and
- * bench_verify_all take about 325,000 bytes (319,752 for the tables) and bench_long about 931,000, as measured on x86-64; all other
- * memory is lent by the caller.
+ * bench_verify_all take about 325,000 bytes (319,752 for the tables) and bench_long about 931,000, as measured on x86-64 with an older
+ * kit; all other memory is lent by the caller.
  *
  * A slice is a pointer and a length, in this order; the length counts the slice's elements (bytes, or words of 64 bits). A pointer is
  * never null, also where the length is 0; a pointer to words is aligned to 8 bytes; no two slices of one call overlap.

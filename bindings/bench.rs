@@ -1,10 +1,10 @@
 //! The calls of the bench for a caller in Rust: a frame file's proofs are answered with number, place and steps, and a proof's long form
 //! is written.
 //!
-//! Copy this file into a project as a module and link the static library of the crate bench_c (on x86-64: `rt staticlib bench_c`, which
-//! writes target/staticlib/libbench_c.a). Nothing here is unsafe to call. It needs neither the standard library nor a heap: the caller
+//! Copy this file into a project as a module and link the static library of the crate bench_c (on x86-64: `rt lib` in crates/bench_c,
+//! which writes crates/bench_c/out/libbench_c.a). Nothing here is unsafe to call. It needs neither the standard library nor a heap: the caller
 //! lends all memory but the stack, of which `verify` and `verify_all` take about 325,000 bytes (319,752 for tables of their own) and
-//! `long_form` about 931,000, as measured on x86-64.
+//! `long_form` about 931,000, as measured on x86-64 with an older kit.
 
 /// The greatest sizes. What is lent above them is not used; of pool, stack, places and tree it is cleared, too.
 pub const FILE_BYTES: usize = 1_048_576;

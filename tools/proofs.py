@@ -1,5 +1,8 @@
 #!/usr/bin/env python3
-"""Helps to write proof files. Run it in the root of the repository; it calls `rt dev`.
+"""Of the older kit's form: it reads and writes proofs that walk the code by hand (Proof.antt, paths of `.before`), and calls `rt dev`, which is gone. Today `rt check --start F --allow-holes`, in
+the crate's folder, writes Invariants.antt and Answers.antt of F with a hole at each goal that is left, and prints what is known there by name; `rt must-fail NAME` tries a crate's edits.
+
+Helps to write proof files. Run it in the root of the repository; it calls `rt dev`.
 
     proofs.py skeletons CRATE            writes each skeleton that `rt dev` offers, until it offers none
     proofs.py chains CRATE FUNCTION      for each need of a function, the fields that lead to what is known there, with how many `.before`

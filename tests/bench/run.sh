@@ -1,7 +1,7 @@
 #!/bin/sh
 # Times the file check natively: run.sh ARCHIVE [FILE..]
-# ARCHIVE is the static library of the crate frames_c for this machine (on x86-64: rt staticlib frames_c, which writes
-# target/staticlib/libframes_c.a). With no FILE: the corpus, and a file of the greatest sizes made by ../make_big.py.
+# ARCHIVE is the static library of the crate frames_c for this machine (on x86-64: rt lib in crates/frames_c, which writes
+# crates/frames_c/out/libframes_c.a). With no FILE: the corpus, and a file of the greatest sizes made by ../make_big.py.
 set -eu
 here=$(cd "$(dirname "$0")" && pwd)
 archive=${1:?usage: run.sh ARCHIVE [FILE..]}

@@ -1,7 +1,7 @@
 #!/bin/sh
 # Times the runs natively beside metamath-rs 0.3.9: verify.sh ARCHIVE ORACLE
-# ARCHIVE is the static library of the crate bench_c for this machine (on x86-64: rt staticlib bench_c, which writes
-# target/staticlib/libbench_c.a). ORACLE is the oracle's folder (see ../differential/bench.sh; ORACLE_PROGRAM may name the built program).
+# ARCHIVE is the static library of the crate bench_c for this machine (on x86-64: rt lib in crates/bench_c, which writes
+# crates/bench_c/out/libbench_c.a). ORACLE is the oracle's folder (see ../differential/bench.sh; ORACLE_PROGRAM may name the built program).
 # On hol, set-2500, the first proof of big-unifier and made proofs of 60,000 letters each: the time of all proofs, the file in memory, with
 # the greatest sizes lent. The clock starts after the file check (see verify.c); the clearing of the lent memory is counted and not counted.
 # Then the time of a step in made databases of 100 to 4,000 statements.

@@ -1,7 +1,7 @@
 #!/bin/sh
 # Compiles and runs a test of bindings/bench.h and one of bindings/bench.rs: run.sh ARCHIVE
-# ARCHIVE is the static library of the crate bench_c for this machine (on x86-64: rt staticlib bench_c, which writes
-# target/staticlib/libbench_c.a).
+# ARCHIVE is the static library of the crate bench_c for this machine (on x86-64: rt lib in crates/bench_c, which writes
+# crates/bench_c/out/libbench_c.a).
 set -eu
 here=$(cd "$(dirname "$0")" && pwd)
 archive=${1:?usage: run.sh ARCHIVE}

@@ -1,7 +1,7 @@
 #!/bin/sh
 # Compares the calls of the bench with metamath-rs 0.3.9, the vectors and random bytes: bench.sh ARCHIVE ORACLE VECTORS [COUNT]
-# ARCHIVE is the static library of the crate bench_c for this machine (on x86-64: rt staticlib bench_c, which writes
-# target/staticlib/libbench_c.a). ORACLE is the oracle's folder, with its corpus and its build.sh; beside it stands docs/src, the Rust that
+# ARCHIVE is the static library of the crate bench_c for this machine (on x86-64: rt lib in crates/bench_c, which writes
+# crates/bench_c/out/libbench_c.a). ORACLE is the oracle's folder, with its corpus and its build.sh; beside it stands docs/src, the Rust that
 # it compiles. Neither is written to: both are copied to target/oracle and built there, unless ORACLE_PROGRAM names the built program.
 # VECTORS is the folder of vectors. COUNT is the number of random inputs, 1,000,000 if not given; with fewer there are fewer mutants, too.
 # A file on which the two differ is saved in target/differential. The last line has the counts; the exit status is 1 if any differ.

@@ -3,6 +3,7 @@
 # with FOLDER/N.long and N.answers, where the oracle has them: the text of each long form, and the steps of each refusal;
 # with FOLDER/N.expect, where vectors state what `check_proofs` writes: which proofs are refused, and how;
 # with FOLDER/calls.tsv, where vectors state calls: each text of an accepted long form is that of a line.
+# LONGFORM is crates/longform/out/longform, which `rt run` in that folder leaves there.
 # The known differences from the oracle (bench/known.rs, docs/DIFFERENCES.md) are left out and counted. Lines that differ are shown: `<` is
 # the program's, `>` the stated one. The exit status is 1 if any differ.
 set -eu

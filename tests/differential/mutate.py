@@ -1,7 +1,7 @@
 #!/usr/bin/env python3
 # Compares a program with another reading of document 01 on changed frame files: mutate.py CHECKER PROGRAM [COUNT [SEED]]
 # CHECKER is as in compare.py. PROGRAM reads a frame file from standard input and writes `good SYMBOLS STATEMENTS` or
-# `refused NUMBER PLACE` (the program framecheck does). The files are those of the replayed list that have at most 4,096
+# `refused NUMBER PLACE` (the program framecheck does, crates/framecheck/out/framecheck after `rt run` in that folder). The files are those of the replayed list that have at most 4,096
 # bytes, each changed a few times: bytes, numbers, records left out, doubled, swapped, taken from another file, cut short.
 import collections
 import pathlib

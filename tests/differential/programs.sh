@@ -1,6 +1,6 @@
 #!/bin/sh
 # programs.sh FOLDER FRAMECHECK: runs `framecheck` on each FOLDER/N.frames and compares with FOLDER/N.expect: the same `refused` line, or `good`
-# where the expected output is that of a good file.
+# where the expected output is that of a good file. FRAMECHECK is crates/framecheck/out/framecheck, which `rt run` in that folder leaves there.
 set -eu
 count=0 differ=0
 for file in "$1"/*.frames; do

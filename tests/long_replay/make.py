@@ -26,7 +26,7 @@ GREATEST = RUNS.GREATEST + (131072, 65536)
 # The files of the corpus of whose .long every line is in the list.
 WHOLE = RUNS.CORPUS + sorted({"bench-table/" + row[0] for row in RUNS.ROWS})
 
-# So many lines of set-2500.long, the longest: each call checks the file anew, which takes this one 0.08 s.
+# So many lines of set-2500.long, the longest: each call checks the file anew, which takes this one 0.08 s (with the older kit).
 LONGEST = 10
 
 

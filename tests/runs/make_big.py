@@ -15,27 +15,27 @@ CRATE = make_try.ROOT + '/crates/machine_long'
 
 def example(data, statement, answer):
     out = ['-- The vector with 44, a file of %s bytes, and its answer by another reading of document 01, made apart from this one.' % f'{len(data):,}',
-           'use Rattle·machine.specs.Files.{Row}', 'use Rattle·machine_try.specs.Hex.{call}', '',
-           '-- file in hexadecimal, statement, pool, stack, places, answer', 'unfoldable pub manyVariables : Row',
-           'manyVariables =', f'    call "{data.hex()}"', f"    {statement} 65536 1024 4096 ({', '.join(answer)})"]
+           'use Rattle.machine.specs.Files.{Row}', 'use Rattle.machine_try.specs.Hex.{call}', '',
+           '-- file in hexadecimal, statement, pool, stack, places, answer', 'unfoldable pub many_variables : Row',
+           'many_variables =', f'    call "{data.hex()}"', f"    {statement} 65536 1024 4096 ({', '.join(answer)})"]
     open(CRATE + '/specs/ManyVariables.antt', 'w').write('\n'.join(out) + '\n')
 
 
 def fact():
     use, unfold = make_try.opened('machine_long', ['ManyVariables'])
-    for module, path in [('machine_try.specs.Hex', 'machine_try/specs/Hex'), ('machine_long·proofs.proofs.Quick', 'machine_long/proofs/Quick')]:
+    for module, path in [('machine_try.specs.Hex', 'machine_try/specs/Hex'), ('machine_long.proofs.Quick', 'machine_long/proofs/Quick')]:
         names = make_try.names(f'{make_try.ROOT}/crates/{path}.antt')
-        use.append(f"use Rattle·{module}.{{{', '.join(names)}}}")
+        use.append(f"use Rattle.{module}.{{{', '.join(names)}}}")
         unfold += names
     out = ['-- The definition of a run answers 44 on the vector, with its place and steps. The quicker way is computed inside the checker, and its',
            '-- answer is the definition\'s (Same.antt). The `unfolding` line names every definition on the way; tests/runs/make_big.py writes it.',
-           'use mathlib.Core.Path.{_≡_, refl, ap, _∙_}', *use, 'use Rattle·machine_long·proofs.proofs.Same.{answer-same}', '',
+           'use mathlib.Core.Path.{◌≡◌, refl, ap, ◌∙◌}', *use, 'use Rattle.machine_long.proofs.Same.{answer-same}', '',
            '-- the quicker way, computed',
-           'computed : told (quickAnswer (quick (manyVariables .file)) (manyVariables .statement) (manyVariables .room)) ≡ manyVariables .given',
+           'computed : told (quick_answer (quick many_variables.file) many_variables.statement many_variables.room) ≡ many_variables.given',
            'unfolding ' + ' '.join(unfold), 'computed = refl', '',
-           '-- the definition', 'pub manyVariables-hold : answered manyVariables ≡ stated manyVariables', 'unfolding answered stated',
-           'manyVariables-hold =',
-           '    ap told (answer-same (manyVariables .file) (manyVariables .statement) (manyVariables .room)) ∙ computed']
+           '-- the definition', 'pub many_variables-hold : answered many_variables ≡ stated many_variables', 'unfolding answered stated',
+           'many_variables-hold =',
+           '    ap told (answer-same many_variables.file many_variables.statement many_variables.room) ∙ computed']
     open(CRATE + '/proofs/ManyVariables.antt', 'w').write('\n'.join(out) + '\n')
 
 

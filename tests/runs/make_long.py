@@ -25,8 +25,8 @@ def names(path):
 
 make_try.names = names
 use, unfold = make_try.opened('postorder', ['LongForm', 'LongTable'])
-out = HEAD + ['use mathlib.Core.Path.{_≡_, refl}', 'use mathlib.Core.List.{map}'] + use
+out = HEAD + ['use mathlib.Core.Path.{◌≡◌, refl}', 'use mathlib.Core.List.{map}'] + use
 for name, comment in LISTS:
-    out += ['', f'-- {comment}', f'pub {name}-hold : map longAnswered {name} ≡ map longStated {name}', 'unfolding ' + ' '.join(unfold),
+    out += ['', f'-- {comment}', f'pub {name}-hold : map long_answered {name} ≡ map long_stated {name}', 'unfolding ' + ' '.join(unfold),
             f'{name}-hold = refl']
 open(PATH, 'w').write('\n'.join(out) + '\n')

@@ -2,8 +2,9 @@
 """Writes the examples that the definition of a run is computed on, inside the checker.
 
     make_try.py VECTORS                  the stored samples: crates/machine_try/specs and proofs
-    make_try.py VECTORS --all FOLDER N   files of N rows each in FOLDER (a copy of crates/machine_try), of 271 vectors and all
-                                         hand-worked runs; a file above 2,000 bytes has a part of its own
+    make_try.py VECTORS --all FOLDER N   files of N rows each in FOLDER (crates/machine_try of a copy of the repository, in which this
+                                         is run), of 271 vectors and all hand-worked runs; a file above 2,000 bytes has a part of its own.
+                                         specs/Lib.antt and proofs/Lib.antt of that copy then name the parts
 
 VECTORS has calls/calls.tsv with its files, and program/N.frames with N.expect. A row is a file, a statement number, the room
 lent, and the answer that document 01 gives. Also rewrites crates/machine/proofs/Rows.antt, whose `unfolding` lines name every
@@ -41,21 +42,20 @@ def opened(own, modules):
                 seen.add(alias)
                 unfold.append(alias)
                 items.append(n if alias == n else f'{n} as {alias}')
-            where = f'Rattle·{crate}·specs.specs.{mod}' if crate == own else f'Rattle·{crate}.specs.{mod}'
-            use.append(f"use {where}.{{{', '.join(items)}}}")
+            use.append(f"use Rattle.{crate}.specs.{mod}.{{{', '.join(items)}}}")
     return use, unfold
 
 
 def facts(path, own, modules, head, lists):
     use, unfold = opened(own, modules)
-    out = head + ['use mathlib.Core.Path.{_≡_, refl}', 'use mathlib.Core.List.{map}'] + use
+    out = head + ['use mathlib.Core.Path.{◌≡◌, refl}', 'use mathlib.Core.List.{map}'] + use
     for name, comment in lists:
         out += ['', f'-- {comment}', f'pub {name}-hold : map answered {name} ≡ map stated {name}', 'unfolding ' + ' '.join(unfold), f'{name}-hold = refl']
     open(path, 'w').write('\n'.join(out) + '\n')
 
 
 def rows(path, head, lists):
-    out = head + ['use mathlib.Core.List.{List, [], _∷_}', 'use Rattle·machine.specs.Files.{Row}', 'use Rattle·machine_try·specs.specs.Hex.{call}']
+    out = head + ['use Rattle.std.specs.Prelude.{List, [], ◌∷◌}', 'use Rattle.machine.specs.Files.{Row}', 'use Rattle.machine_try.specs.Hex.{call}']
     for name, comment, cases in lists:
         out += ['', f'-- {comment}', f'unfoldable pub {name} : List Row', f'{name} =']
         for i, c in enumerate(cases):
