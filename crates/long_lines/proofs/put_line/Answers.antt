@@ -1,0 +1,12 @@
+-- `put_line` meets its contract: there is always room (`long-line-few`).
+use native.Mathlib.Omega.{arith}
+use Rattle.reply.proofs.Whole.{stands-to, stands-full}
+use Rattle.long_lines.specs.LongLines.{long_line_of}
+use Rattle.long_lines.proofs.Rooms.{long-line-few}
+use Rattle.long_lines.proofs.put_line.Goals as goal
+
+pub returns-in-To : goal.returns-in-To
+returns-in-To c = let whole = stands-to (long_line_of c.args.file.now c.args.p.0) c.put_statement.ensures (omega (arith, long-line-few c.args.file.now c.requires.filed.0.good c.args.p.0, c.requires.room)) c.in-To.is in record { prefix_len = whole.0; out_after = whole.1 }
+
+pub returns-in-Full : goal.returns-in-Full
+returns-in-Full c = let whole = stands-full (long_line_of c.args.file.now c.args.p.0) c.put_statement.ensures (omega (arith, long-line-few c.args.file.now c.requires.filed.0.good c.args.p.0, c.requires.room)) c.in-Full.is in record { prefix_len = whole.0; out_after = whole.1 }
