@@ -89,7 +89,7 @@ module _ {f syms stmts : List ℕ} {a at : ℕ} (filed : Filed f syms stmts) (lo
   claim-image v i var =
       let member = later (statement_of (database f) a).symbols i in
       let facts = (good-facts f filed.good).statement a loc.there in
-      let given = facts.claim-given asserts v member (record { defined = facts.symbols-defined v member; class = equal-true _ _ var }) in
+      let given = facts.claim_given asserts v member (record { defined = facts.symbols_defined v member; class = equal-true _ _ var }) in
       images v (mandatory-there (database f) (statement_of (database f) a).hyps given.by v given.listed given.floats)
 
   claim-shows : Shows (database f) froms tos pool σ (expression_of (database f) a).symbols
@@ -130,7 +130,7 @@ module _ {f syms : List ℕ} {at : ℕ} {froms tos sets pool stack : List ℕ} {
   finalizes-full subst =
       record {
         grows = λ c' e. let z : ◌≡◌ {A = ℕ} 0 1 = cc in absurd (omega arith);
-        pool-sized = same_size;
+        pool_sized = same_size;
         follows = λ stmts p text numbers places locals tree a σ xs h m filed loc asserts images depth s records.
             let adds = subst.adds a σ (filed-indexed filed) loc (claim-shows filed loc asserts σ images) in
             let full = grown-of-full _ c.used limits.pool adds.answers in
@@ -146,7 +146,7 @@ module _ {f syms : List ℕ} {at : ℕ} {froms tos sets pool stack : List ℕ} {
   finalizes-to {to} {row} {stack'} {answer} low subst claim pushes =
       record {
         grows = λ c' e. let u = push-used pushes e in omega arith;
-        pool-sized = same_size;
+        pool_sized = same_size;
         follows = λ stmts p text numbers places locals tree a σ xs h m filed loc asserts images depth s records.
             let adds = subst.adds a σ (filed-indexed filed) loc (claim-shows filed loc asserts σ images) in
             let said = grown-of-to _ c.used limits.pool to adds.answers in
@@ -156,9 +156,9 @@ module _ {f syms : List ℕ} {at : ℕ} {froms tos sets pool stack : List ℕ} {
             let there : range c.used to pool' ≡ packed (database f) (substituted (is_variable (database f)) σ (expression_of (database f) a).symbols) =
             ap (λ (k : ℕ). range c.used k pool') said.0 ∙ (ap (λ (q : List ℕ). range c.used (c.used + length (packed (database f) (substituted (is_variable (database f)) σ (expression_of (database f) a).symbols))) q)
             (adds.holds (below-no (omega (arith, said.0, said.1)))) ∙ range-written _ c.used pool (omega (arith, said.0, said.1))) in
-            let grown = shown-grown s [] numbers pool' c.count to (rw (append-nil m.variables) s.numbered) s.variables-few refl adds.sized adds.kept (omega (arith, said.0)) said.1 in
+            let grown = shown-grown s [] numbers pool' c.count to (rw (append-nil m.variables) s.numbered) s.variables_few refl adds.sized adds.kept (omega (arith, said.0)) said.1 in
             let now = rw (append-nil m.variables, spent) at grown in
             ends-skip PoolFull (below-no (omega (arith, said.0, said.1)))
             (push-ends now left h nodes row (record { proved = conclusion (database f) a σ xs; mark = mark_of text tag end }) pushes (omega arith) (down-drop h left depth now.stack) (λ kept d. down-drop h left depth d) claim.sized
-            (claim-means filed loc asserts σ images claim (omega (arith, said.0)) there) (rw (claim.tag_is, claim.end_is) refl) (rw claim.word-is records));
+            (claim-means filed loc asserts σ images claim (omega (arith, said.0)) there) (rw (claim.tag_is, claim.end_is) refl) (rw claim.word_is records));
       }

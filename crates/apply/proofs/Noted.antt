@@ -55,7 +55,7 @@ module _ {f : List ℕ} {a at : ℕ} {stack : List ℕ} {depth n : ℕ} {seats t
         sooner = λ l. rw notes.sized (notes.sooner (rw notes.sized at l));
         holds = λ l d.
             let fits = rw notes.sized at l in
-            let is = notes.nodes-is fits in
+            let is = notes.nodes_is fits in
             record {
               now = (used, node a (forest xs)) ∷ d.kept;
               within = within_more;
@@ -63,6 +63,6 @@ module _ {f : List ℕ} {a at : ℕ} {stack : List ℕ} {depth n : ℕ} {seats t
                   further {next = noted.nodes} {trees = forest xs} d.recorded loc (notes.heads fits)
                   (rw (sym n-is) (seats-denote seats tree' (there d.kept d.on_stack) (omega arith) (used + 1) n (notes.puts fits) 0 (used + 1) n (omega arith) many (omega arith) seated))
                   (omega arith);
-              denotes = application (last refl refl) (notes.word-is fits);
+              denotes = application (last refl refl) (notes.word_is fits);
             };
       }

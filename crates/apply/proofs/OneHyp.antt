@@ -35,9 +35,9 @@ module _ (f : List ℕ) (at : ℕ) (row : Row) (froms tos sets : List ℕ) {code
   binds-other n =
       record {
         answers = pick_second _ (other n) refl;
-        froms-is = pick_second _ (other n) refl;
-        tos-is = pick_second _ (other n) refl;
-        sets-is = pick_second _ (other n) refl;
+        froms_is = pick_second _ (other n) refl;
+        tos_is = pick_second _ (other n) refl;
+        sets_is = pick_second _ (other n) refl;
       }
 
   pub binds-same : {v : ℕ} {froms' tos' sets' : List ℕ} → row.head ≡ code → v ≡ get_or (statement_at f at).symbols 1 0 → froms' ≡ set froms (v % 65536) row.from
@@ -47,9 +47,9 @@ module _ (f : List ℕ) (at : ℕ) (row : Row) (froms tos sets : List ℕ) {code
   binds-same e v a b c =
       record {
         answers = pick_first _ (alike e) refl;
-        froms-is = pick_first _ (alike e) (rw v at a);
-        tos-is = pick_first _ (alike e) (rw v at b);
-        sets-is = pick_first _ (alike e) (rw v at c);
+        froms_is = pick_first _ (alike e) (rw v at a);
+        tos_is = pick_first _ (alike e) (rw v at b);
+        sets_is = pick_first _ (alike e) (rw v at c);
       }
 
   module _ (syms pool : List ℕ) where
@@ -102,10 +102,10 @@ module _ {f syms : List ℕ} {at : ℕ} {row : Row} {froms tos sets pool froms' 
   unfolding pick
   processes-float two sized low b =
       record {
-        ranged = λ n r high. rw (b.froms-is, b.tos-is) (tried n r high (equal row.head (typecode (statement_at f at))));
-        froms-sized = ap length b.froms-is ∙ length-pick (equal row.head (typecode (statement_at f at))) _ _ (length-set froms _ _);
-        tos-sized = ap length b.tos-is ∙ length-pick (equal row.head (typecode (statement_at f at))) _ _ (length-set tos _ _);
-        sets-sized = ap length b.sets-is ∙ length-pick (equal row.head (typecode (statement_at f at))) _ _ (stored-length sets _ _);
+        ranged = λ n r high. rw (b.froms_is, b.tos_is) (tried n r high (equal row.head (typecode (statement_at f at))));
+        froms_sized = ap length b.froms_is ∙ length-pick (equal row.head (typecode (statement_at f at))) _ _ (length-set froms _ _);
+        tos_sized = ap length b.tos_is ∙ length-pick (equal row.head (typecode (statement_at f at))) _ _ (length-set tos _ _);
+        sets_sized = ap length b.sets_is ∙ length-pick (equal row.head (typecode (statement_at f at))) _ _ (stored-length sets _ _);
         float = λ e. b;
         essential = λ n. absurd (n (sym kind ∙ two));
       }
@@ -119,7 +119,7 @@ module _ {f syms : List ℕ} {at : ℕ} {row : Row} {froms tos sets pool froms' 
 pub processes-essential : {f syms : List ℕ} {at : ℕ} {row : Row} {froms tos sets pool : List ℕ} {k : ℕ} {answer : Processed} → k ≡ (statement_at f at).kind → (k ≡ 2 → ⊥)
     → ChecksEssential f syms at row froms tos pool answer → ProcessesHyp f syms at row froms tos sets pool froms tos sets answer
 processes-essential kind not-two c =
-    record { ranged = λ n r high. r; froms-sized = refl; tos-sized = refl; sets-sized = refl; float = λ e. absurd (not-two (kind ∙ e)); essential = λ n. (c, (refl, (refl, refl))) }
+    record { ranged = λ n r high. r; froms_sized = refl; tos_sized = refl; sets_sized = refl; float = λ e. absurd (not-two (kind ∙ e)); essential = λ n. (c, (refl, (refl, refl))) }
 
 -- a row whose range is within stays as it is
 pub clamped-row : (row : Row) (used : ℕ) {from to : ℕ} → (to ≤ used) × (row.to ≤ used → to ≡ row.to) → (from ≤ to) × (row.from ≤ to → from ≡ row.from)

@@ -166,9 +166,9 @@ mandatory-float db P (h ∷ hs) each v i = found (is_float (statement_of db h)) 
 -- so far: the tests that are left are the tests of the whole, and the table has the images of the $f that are done
 pub record Processing (f syms stmts : List ℕ) (at : ℕ) (stack : List ℕ) (base : ℕ) (seats : List ℕ) (used : ℕ) (froms₀ tos₀ sets₀ pool : List ℕ) (j : ℕ) (froms tos sets : List ℕ) : Type 0 where
   pub ranged : Ranged froms tos used
-  pub froms-sized : length froms ≡ length froms₀
-  pub tos-sized : length tos ≡ length tos₀
-  pub sets-sized : length sets ≡ length sets₀
+  pub froms_sized : length froms ≡ length froms₀
+  pub tos_sized : length tos ≡ length tos₀
+  pub sets_sized : length sets ≡ length sets₀
   pub left : (a : ℕ) (xs : List Proved) (vs : List ℕ) → Seated f syms stmts at stack base seats used pool a xs vs
       → length (database f).symbols ≤ length froms₀ → length (database f).symbols ≤ length tos₀ → 4 * length (database f).symbols ≤ length sets₀ → (rest : Result Memory)
       → check_hyps (database f) (bound (database f) (statement_of (database f) a).hyps xs) (drop j (statement_of (database f) a).hyps) (drop j xs) rest
@@ -184,9 +184,9 @@ pub processing-none : {f syms stmts : List ℕ} {at : ℕ} {stack : List ℕ} {b
 processing-none froms tos sets pool r =
     record {
       ranged = r;
-      froms-sized = refl;
-      tos-sized = refl;
-      sets-sized = refl;
+      froms_sized = refl;
+      tos_sized = refl;
+      sets_sized = refl;
       left = λ a xs vs s x y z rest. refl;
       images = λ a xs vs s x y z g m is. absurd (Memᴰ.not-nil m);
     }
@@ -226,7 +226,7 @@ module _ {f syms stmts : List ℕ} {at : ℕ} {stack : List ℕ} {base : ℕ} {s
       listed = rw split (Memᴰ.append_right (take j (statement_of (database f) a).hyps) (Memᴰ.head refl))
 
       there' : h < length (database f).statements
-      there' = let e = (facts.hyps-active h listed).earlier in let t = s.located.there in omega arith
+      there' = let e = (facts.hyps_active h listed).earlier in let t = s.located.there in omega arith
 
       loc : Located f h o
       loc = rw o_is (filed-located s.filed h there')
@@ -263,9 +263,9 @@ module _ {f syms stmts : List ℕ} {at : ℕ} {stack : List ℕ} {base : ℕ} {s
               → ImageShown (database f) vs pool used froms tos sets v (bound (database f) (statement_of (database f) a).hyps xs v)
           shown-for v m var =
               let member = later (statement_of (database f) h).symbols m in
-              let defined = ((good-facts f s.filed.good).statement h there').symbols-defined v member in
+              let defined = ((good-facts f s.filed.good).statement h there').symbols_defined v member in
               let w = essential-ready (database f) a facts (take j (statement_of (database f) a).hyps) (drop (suc j) (statement_of (database f) a).hyps) h split
-              (three (facts.hyps-active h listed).kind) v member (record { defined = defined; class = equal-true _ _ var }) in
+              (three (facts.hyps_active h listed).kind) v member (record { defined = defined; class = equal-true _ _ var }) in
               rw w.2.variable at (inv.images a xs vs s x y z w.0 w.1 (equal-yes w.2.kind))
 
       -- the test of hypothesis j
@@ -288,7 +288,7 @@ module _ {f syms stmts : List ℕ} {at : ℕ} {stack : List ℕ} {base : ℕ} {s
       kind-read = ap (λ (st : Rattle.frames.specs.Database.Statement). st.kind) (sym (located-statement loc))
 
       floated-few : (statement_of (database f) h).kind ≡ 2 → floated (statement_of (database f) h) < length (database f).symbols
-      floated-few two = (((good-facts f s.filed.good).statement h there').float-variable two).defined
+      floated-few two = (((good-facts f s.filed.good).statement h there').float_variable two).defined
 
       -- where the answer is fine, the variable of a $f is bound
       bound-tables : answer ≡ Fine → (statement_of (database f) h).kind ≡ 2
@@ -305,7 +305,7 @@ module _ {f syms stmts : List ℕ} {at : ℕ} {stack : List ℕ} {base : ℕ} {s
 
           tried : (t : Bool) → equal row.head (typecode (statement_at f o)) ≡ t → BindsFloat f o row froms tos sets froms' tos' sets' answer
               → (froms' ≡ set froms (floated (statement_of (database f) h)) row.from) × ((tos' ≡ set tos (floated (statement_of (database f) h)) row.to) × (sets' ≡ store_set sets (floated (statement_of (database f) h)) row.vars.words))
-          tried true q b = (rw (q, small) at b.froms-is, (rw (q, small) at b.tos-is, rw (q, small) at b.sets-is))
+          tried true q b = (rw (q, small) at b.froms_is, (rw (q, small) at b.tos_is, rw (q, small) at b.sets_is))
           tried false q b =
               let refused : answer ≡ Refused StepFloatWrongType = rw q at b.answers in
               let z : ◌≡◌ {A = ℕ} 0 1 = cc in
@@ -339,9 +339,9 @@ module _ {f syms stmts : List ℕ} {at : ℕ} {stack : List ℕ} {base : ℕ} {s
           float two (inr e) =
               let now = bound-tables fine two in
               let few = floated-few two in
-              let one = inv.froms-sized in
-              let other = inv.tos-sized in
-              let third = inv.sets-sized in
+              let one = inv.froms_sized in
+              let other = inv.tos_sized in
+              let third = inv.sets_sized in
               let w = seat-means in
               let row_is = seat.is w.row w.few w.at w.means.rises w.means.within in
               rw (e, now.0, now.1.0, now.1.1, float-image (database f) a facts (paired-here j (statement_of (database f) a).hyps xs hyp-here x-at.here) (rw e at is))
@@ -366,9 +366,9 @@ module _ {f syms stmts : List ℕ} {at : ℕ} {stack : List ℕ} {base : ℕ} {s
     processing-more fine =
         record {
           ranged = p.ranged used inv.ranged seat.within;
-          froms-sized = p.froms-sized ∙ inv.froms-sized;
-          tos-sized = p.tos-sized ∙ inv.tos-sized;
-          sets-sized = p.sets-sized ∙ inv.sets-sized;
+          froms_sized = p.froms_sized ∙ inv.froms_sized;
+          tos_sized = p.tos_sized ∙ inv.tos_sized;
+          sets_sized = p.sets_sized ∙ inv.sets_sized;
           left = λ a xs vs s x y z rest. let e : j + 1 ≡ suc j = omega arith in sym (rw (fine, sym e) at (unrolled a xs vs s x y z rest));
           images = λ a xs vs s x y z. images-now a xs vs s x y z fine;
         }
@@ -380,9 +380,9 @@ module _ {f syms stmts : List ℕ} {at : ℕ} {stack : List ℕ} {base : ℕ} {s
     processing-stop is =
         record {
           ranged = p.ranged used inv.ranged seat.within;
-          froms-sized = p.froms-sized ∙ inv.froms-sized;
-          tos-sized = p.tos-sized ∙ inv.tos-sized;
-          sets-sized = p.sets-sized ∙ inv.sets-sized;
+          froms_sized = p.froms_sized ∙ inv.froms_sized;
+          tos_sized = p.tos_sized ∙ inv.tos_sized;
+          sets_sized = p.sets_sized ∙ inv.sets_sized;
           checks = λ a xs vs rest s x y z. rw is at (unrolled a xs vs s x y z rest);
           images = λ a xs vs s x y z e v m. let q : ◌≡◌ {A = ℕ} 0 1 = cc in absurd (omega arith);
         }
@@ -393,9 +393,9 @@ module _ {f syms stmts : List ℕ} {at : ℕ} {stack : List ℕ} {base : ℕ} {s
   processing-done all_done =
       record {
         ranged = inv.ranged;
-        froms-sized = inv.froms-sized;
-        tos-sized = inv.tos-sized;
-        sets-sized = inv.sets-sized;
+        froms_sized = inv.froms_sized;
+        tos_sized = inv.tos_sized;
+        sets_sized = inv.sets_sized;
         checks = λ a xs vs rest s x y z.
             let n = many a xs vs s in
             sym (inv.left a xs vs s x y z rest) ∙ rw (drop_of_length-le (statement_of (database f) a).hyps n.0, drop_of_length-le xs n.1) refl;

@@ -57,10 +57,10 @@ module _ {f syms stmts : List ℕ} {at : ℕ} {table froms tos sets pool stack :
   checked-kept keeps final =
       record {
         grows = final.grows;
-        pool-sized = final.pool-sized;
+        pool_sized = final.pool_sized;
         follows = λ p text numbers places locals tree a σ xs h m filed loc asserts under images depth s records.
             let u = under-now under s.begun in
-            let few = s.variables-few in
+            let few = s.variables_few in
             let n = s.numbered.counts in
             ends-skip ProofDvViolation
             (no-of-true (sym (keeps.tells syms a p σ m.variables filed loc (omega arith) u.0 u.1 (λ v i. (images v i).numbers) (λ v w i j var. (images v i).known w j var))))
@@ -71,10 +71,10 @@ module _ {f syms stmts : List ℕ} {at : ℕ} {table froms tos sets pool stack :
   checked-broken keeps =
       record {
         grows = λ c' e. let z : ◌≡◌ {A = ℕ} 0 1 = cc in absurd (omega arith);
-        pool-sized = refl;
+        pool_sized = refl;
         follows = λ p text numbers places locals tree a σ xs h m filed loc asserts under images depth s records.
             let u = under-now under s.begun in
-            let few = s.variables-few in
+            let few = s.variables_few in
             let n = s.numbered.counts in
             ends-stop _
             (no-of-false (sym (keeps.tells syms a p σ m.variables filed loc (omega arith) u.0 u.1 (λ v i. (images v i).numbers) (λ v w i j var. (images v i).known w j var))));
@@ -88,9 +88,9 @@ module _ {f syms stmts : List ℕ} {at : ℕ} {table froms tos sets pool stack :
     seated-refused p =
         record {
           ranged = p.ranged;
-          froms-sized = p.froms-sized;
-          tos-sized = p.tos-sized;
-          sets-sized = p.sets-sized;
+          froms_sized = p.froms_sized;
+          tos_sized = p.tos_sized;
+          sets_sized = p.sets_sized;
           grows = λ c' e. let z : ◌≡◌ {A = ℕ} 0 1 = cc in absurd (omega arith);
           follows = λ q text numbers places locals tree a xs m asserts under x y z seated depth s records.
               ends_by (p.checks a xs m.variables _ seated x y z) refl refuses;
@@ -104,9 +104,9 @@ module _ {f syms stmts : List ℕ} {at : ℕ} {table froms tos sets pool stack :
     seated-fine p checked =
         record {
           ranged = p.ranged;
-          froms-sized = p.froms-sized;
-          tos-sized = p.tos-sized;
-          sets-sized = p.sets-sized;
+          froms_sized = p.froms_sized;
+          tos_sized = p.tos_sized;
+          sets_sized = p.sets_sized;
           grows = checked.grows;
           follows = λ q text numbers places locals tree a xs m asserts under x y z seated depth s records.
               ends_by (p.checks a xs m.variables _ seated x y z) refl
@@ -145,7 +145,7 @@ module _ (f syms stmts : List ℕ) (a at n : ℕ) (at-is : at ≡ get_or stmts a
 
   few-hyps : n ≤ 64
   few-hyps =
-      let few = ((good-facts f filed.good).statement a located.there).hyps-few in
+      let few = ((good-facts f filed.good).statement a located.there).hyps_few in
       let k = counted in
       omega arith
 
@@ -179,10 +179,10 @@ module _ {f syms stmts : List ℕ} {a at n : ℕ} {text table froms tos sets poo
   executes-underflow r few =
       record {
         ranged = r;
-        froms-sized = refl;
-        tos-sized = refl;
-        sets-sized = refl;
-        tree-sized = refl;
+        froms_sized = refl;
+        tos_sized = refl;
+        sets_sized = refl;
+        tree_sized = refl;
         grows = λ c' e. let z : ◌≡◌ {A = ℕ} 0 1 = cc in absurd (omega arith);
         follows = λ p numbers places locals m filed asked can under x y z s.
             ends-stop _ (short f syms stmts a at n at-is n-is p filed asked can text numbers pool stack places locals tree c limits m s few);
@@ -193,10 +193,10 @@ module _ {f syms stmts : List ℕ} {a at n : ℕ} {text table froms tos sets poo
   executes-never r many =
       record {
         ranged = r;
-        froms-sized = refl;
-        tos-sized = refl;
-        sets-sized = refl;
-        tree-sized = refl;
+        froms_sized = refl;
+        tos_sized = refl;
+        sets_sized = refl;
+        tree_sized = refl;
         grows = λ c' e. let z : ◌≡◌ {A = ℕ} 0 1 = cc in absurd (omega arith);
         follows = λ p numbers places locals m filed asked can under x y z s.
             let few = few-hyps f syms stmts a at n at-is n-is p filed asked can in
@@ -211,10 +211,10 @@ module _ {f syms stmts : List ℕ} {a at n : ℕ} {text table froms tos sets poo
     executes-refused r seat =
         record {
           ranged = r;
-          froms-sized = refl;
-          tos-sized = refl;
-          sets-sized = refl;
-          tree-sized = refl;
+          froms_sized = refl;
+          tos_sized = refl;
+          sets_sized = refl;
+          tree_sized = refl;
           grows = λ c' e. let z : ◌≡◌ {A = ℕ} 0 1 = cc in absurd (omega arith);
           follows = λ p numbers places locals m filed asked can under x y z s.
               ends-skip ProofUnderflow (passed f syms stmts a at n at-is n-is p filed asked can text numbers pool stack places locals tree c limits m s enough)
@@ -230,10 +230,10 @@ module _ {f syms stmts : List ℕ} {a at n : ℕ} {text table froms tos sets poo
     executes-seated {tree' = tree'} seat notes applied =
         record {
           ranged = applied.ranged;
-          froms-sized = applied.froms-sized;
-          tos-sized = applied.tos-sized;
-          sets-sized = applied.sets-sized;
-          tree-sized = notes.sized;
+          froms_sized = applied.froms_sized;
+          tos_sized = applied.tos_sized;
+          sets_sized = applied.sets_sized;
+          tree_sized = notes.sized;
           grows = applied.grows;
           follows = λ p numbers places locals m filed asked can under x y z s.
               let st = seating f syms stmts a at n at-is n-is p filed asked can text numbers pool stack places locals tree c limits m s enough seat in

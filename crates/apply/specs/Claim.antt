@@ -23,7 +23,7 @@ pub record ClaimRow (f syms : List ℕ) (at : ℕ) (sets : List ℕ) (from to ta
   pub to_is : row.to ≡ to
   pub tag_is : row.tag ≡ tag
   pub end_is : row.end ≡ end
-  pub word-is : row.node ≡ word
+  pub word_is : row.node ≡ word
   pub vars : Gathers f syms at sets row.vars.words
   pub sized : length row.vars.words ≡ 4
 
@@ -31,7 +31,7 @@ pub record ClaimRow (f syms : List ℕ) (at : ℕ) (sets : List ℕ) (from to ta
 pub record Finalizes (f syms : List ℕ) (at : ℕ) (froms tos sets pool stack : List ℕ) (c : Counts) (limits : Limits) (left tag end word nodes : ℕ)
     (pool' stack' : List ℕ) (answer : Outcome) : Type 0 where
   pub grows : (c' : Counts) → answer ≡ Go c' → c.used ≤ c'.used
-  pub pool-sized : length pool' ≡ length pool
+  pub pool_sized : length pool' ≡ length pool
   pub follows : (stmts : List ℕ) (p : ℕ) (text numbers places locals tree : List ℕ) (a : ℕ) (σ : Substitution) (xs : List Proved) (h : ℕ) (m : Memory)
       → Filed f syms stmts → Located f a at → 4 ≤ (statement_of (database f) a).kind
       → ((v : ℕ) → v ∈ mandatory (database f) (statement_of (database f) a).hyps

@@ -33,9 +33,9 @@ pub record Ranged (froms tos : List ℕ) (n : ℕ) : Type 0 where
 -- a $f: 35, or its variable is bound
 pub record BindsFloat (f : List ℕ) (at : ℕ) (row : Row) (froms tos sets froms' tos' sets' : List ℕ) (answer : Processed) : Type 0 where
   pub answers : answer ≡ pick (equal row.head (typecode (statement_at f at))) Fine (Refused StepFloatWrongType)
-  pub froms-is : froms' ≡ pick (equal row.head (typecode (statement_at f at))) (set froms (floated (statement_at f at) % 65536) row.from) froms
-  pub tos-is : tos' ≡ pick (equal row.head (typecode (statement_at f at))) (set tos (floated (statement_at f at) % 65536) row.to) tos
-  pub sets-is : sets' ≡ pick (equal row.head (typecode (statement_at f at))) (store_set sets (floated (statement_at f at) % 65536) row.vars.words) sets
+  pub froms_is : froms' ≡ pick (equal row.head (typecode (statement_at f at))) (set froms (floated (statement_at f at) % 65536) row.from) froms
+  pub tos_is : tos' ≡ pick (equal row.head (typecode (statement_at f at))) (set tos (floated (statement_at f at) % 65536) row.to) tos
+  pub sets_is : sets' ≡ pick (equal row.head (typecode (statement_at f at))) (store_set sets (floated (statement_at f at) % 65536) row.vars.words) sets
 
 -- a $e: 36, then 37 where the row's symbols are not its symbols as substituted
 pub record ChecksEssential (f syms : List ℕ) (at : ℕ) (row : Row) (froms tos pool : List ℕ) (answer : Processed) : Type 0 where
@@ -46,9 +46,9 @@ pub record ChecksEssential (f syms : List ℕ) (at : ℕ) (row : Row) (froms tos
 -- a $f or $e with its entry
 pub record ProcessesHyp (f syms : List ℕ) (at : ℕ) (row : Row) (froms tos sets pool froms' tos' sets' : List ℕ) (answer : Processed) : Type 0 where
   pub ranged : (n : ℕ) → Ranged froms tos n → row.to ≤ n → Ranged froms' tos' n
-  pub froms-sized : length froms' ≡ length froms
-  pub tos-sized : length tos' ≡ length tos
-  pub sets-sized : length sets' ≡ length sets
+  pub froms_sized : length froms' ≡ length froms
+  pub tos_sized : length tos' ≡ length tos
+  pub sets_sized : length sets' ≡ length sets
   pub float : (statement_at f at).kind ≡ 2 → BindsFloat f at row froms tos sets froms' tos' sets' answer
   pub essential : ((statement_at f at).kind ≡ 2 → ⊥)
       → ChecksEssential f syms at row froms tos pool answer × ((froms' ≡ froms) × ((tos' ≡ tos) × (sets' ≡ sets)))
@@ -84,9 +84,9 @@ pub record Seated (f syms stmts : List ℕ) (at : ℕ) (stack : List ℕ) (base 
 -- the hypotheses with their entries: the definition's tests pass or refuse alike; where they pass, the table has the images of the mandatory variables
 pub record ProcessesHyps (f syms stmts : List ℕ) (at : ℕ) (stack : List ℕ) (base : ℕ) (seats : List ℕ) (used : ℕ) (froms tos sets pool froms' tos' sets' : List ℕ) (answer : Processed) : Type 0 where
   pub ranged : Ranged froms' tos' used
-  pub froms-sized : length froms' ≡ length froms
-  pub tos-sized : length tos' ≡ length tos
-  pub sets-sized : length sets' ≡ length sets
+  pub froms_sized : length froms' ≡ length froms
+  pub tos_sized : length tos' ≡ length tos
+  pub sets_sized : length sets' ≡ length sets
   pub checks : (a : ℕ) (xs : List Proved) (vs : List ℕ) (rest : Result Memory) → Seated f syms stmts at stack base seats used pool a xs vs
       → length (database f).symbols ≤ length froms → length (database f).symbols ≤ length tos → 4 * length (database f).symbols ≤ length sets
       → check_hyps (database f) (bound (database f) (statement_of (database f) a).hyps xs) (statement_of (database f) a).hyps xs rest ≡ processed answer rest

@@ -30,7 +30,7 @@ pub record Under (f : List ℕ) (p : ℕ) (table : List ℕ) : Type 0 where
 pub record AppliesChecked (f syms stmts : List ℕ) (at : ℕ) (table froms tos sets pool stack : List ℕ) (c : Counts) (limits : Limits) (left tag end word nodes : ℕ)
     (pool' stack' : List ℕ) (answer : Outcome) : Type 0 where
   pub grows : (c' : Counts) → answer ≡ Go c' → c.used ≤ c'.used
-  pub pool-sized : length pool' ≡ length pool
+  pub pool_sized : length pool' ≡ length pool
   pub follows : (p : ℕ) (text numbers places locals tree : List ℕ) (a : ℕ) (σ : Substitution) (xs : List Proved) (h : ℕ) (m : Memory)
       → Filed f syms stmts → Located f a at → 4 ≤ (statement_of (database f) a).kind → Under f p table
       → ((v : ℕ) → v ∈ mandatory (database f) (statement_of (database f) a).hyps
@@ -45,9 +45,9 @@ pub record AppliesChecked (f syms stmts : List ℕ) (at : ℕ) (table froms tos 
 pub record AppliesSeated (f syms stmts : List ℕ) (at : ℕ) (table seats froms tos sets pool stack : List ℕ) (c : Counts) (limits : Limits) (left tag end word nodes : ℕ)
     (froms' tos' sets' pool' stack' : List ℕ) (answer : Outcome) : Type 0 where
   pub ranged : Ranged froms' tos' c.used
-  pub froms-sized : length froms' ≡ length froms
-  pub tos-sized : length tos' ≡ length tos
-  pub sets-sized : length sets' ≡ length sets
+  pub froms_sized : length froms' ≡ length froms
+  pub tos_sized : length tos' ≡ length tos
+  pub sets_sized : length sets' ≡ length sets
   pub grows : (c' : Counts) → answer ≡ Go c' → c.used ≤ c'.used
   pub follows : (p : ℕ) (text numbers places locals tree : List ℕ) (a : ℕ) (xs : List Proved) (m : Memory) → 4 ≤ (statement_of (database f) a).kind → Under f p table
       → length (database f).symbols ≤ length froms → length (database f).symbols ≤ length tos → 4 * length (database f).symbols ≤ length sets
@@ -61,10 +61,10 @@ pub record AppliesSeated (f syms stmts : List ℕ) (at : ℕ) (table seats froms
 pub record Executes (f syms stmts : List ℕ) (a : ℕ) (text table froms tos sets pool stack tree : List ℕ) (c : Counts) (limits : Limits) (tag end : ℕ)
     (froms' tos' sets' pool' stack' tree' : List ℕ) (answer : Outcome) : Type 0 where
   pub ranged : Ranged froms' tos' c.used
-  pub froms-sized : length froms' ≡ length froms
-  pub tos-sized : length tos' ≡ length tos
-  pub sets-sized : length sets' ≡ length sets
-  pub tree-sized : length tree' ≡ length tree
+  pub froms_sized : length froms' ≡ length froms
+  pub tos_sized : length tos' ≡ length tos
+  pub sets_sized : length sets' ≡ length sets
+  pub tree_sized : length tree' ≡ length tree
   pub grows : (c' : Counts) → answer ≡ Go c' → c.used ≤ c'.used
   pub follows : (p : ℕ) (numbers places locals : List ℕ) (m : Memory) → Filed f syms stmts → p < length (database f).statements
       → Applicable (database f) p a → Under f p table → length (database f).symbols ≤ length froms → length (database f).symbols ≤ length tos → 4 * length (database f).symbols ≤ length sets

@@ -44,7 +44,7 @@ module _ {f syms stmts : List ℕ} {p at : ℕ} (w : Filed f syms stmts) (loc : 
 
   listed_below : (h : ℕ) → h ∈ (statement_of (database f) p).hyps → h < length (database f).statements
   listed_below h i =
-      let earlier = (facts.hyps-active h i).earlier in
+      let earlier = (facts.hyps_active h i).earlier in
       let there = loc.there in
       omega arith
 
@@ -56,7 +56,7 @@ module _ {f syms stmts : List ℕ} {p at : ℕ} (w : Filed f syms stmts) (loc : 
 
   pub floats-limit : length (floats_at f stmts (statement_at f at).hyps) ≤ 64
   floats-limit =
-      let few = facts.hyps-few in
+      let few = facts.hyps_few in
       let same : length (statement_at f at).hyps ≡ length (statement_of (database f) p).hyps = ap (λ (st : Statement). length st.hyps) (sym (located-statement loc)) in
       let short = floats-few f stmts (statement_at f at).hyps in
       omega arith
@@ -64,11 +64,11 @@ module _ {f syms stmts : List ℕ} {p at : ℕ} (w : Filed f syms stmts) (loc : 
   float-defined : (v : ℕ) → v ∈ mandatory (database f) (statement_of (database f) p).hyps → v < length (database f).symbols
   float-defined =
       mandatory-below (database f) (length (database f).symbols) (statement_of (database f) p).hyps
-      (λ h i two. (((good-facts f w.good).statement h (listed_below h i)).float-variable two).defined)
+      (λ h i two. (((good-facts f w.good).statement h (listed_below h i)).float_variable two).defined)
 
   member-defined : (v : ℕ) → v ∈ members (statement_of (database f) p).pairs → v < length (database f).symbols
   member-defined =
-      members-below (length (database f).symbols) (statement_of (database f) p).pairs (λ q i. ((facts.pair-first q i).defined, (facts.pair-second q i).defined))
+      members-below (length (database f).symbols) (statement_of (database f) p).pairs (λ q i. ((facts.pair_first q i).defined, (facts.pair_second q i).defined))
 
   -- both in turn number the first variables
   pub firsts-numbered : {numbers between numbers' : List ℕ} {mandatory count : ℕ} → Unnumbered f numbers
@@ -140,26 +140,26 @@ module _ {f stmts : List ℕ} {at : ℕ} {text numbers : List ℕ} where
           shown syms p limits pool stack places locals tree w loc u r held =
               record {
                 numbered = held;
-                variables-few = few;
+                variables_few = few;
                 begun = record { more = []; is = sym (append-nil (first_variables (database f) p)) };
-                mandatory-known = mandatory-first (database f) p;
-                numbers-sized = let a = pairs.sized in let b = floats.sized in let c = u.sized in omega arith;
+                mandatory_known = mandatory-first (database f) p;
+                numbers_sized = let a = pairs.sized in let b = floats.sized in let c = u.sized in omega arith;
                 pool = refl;
-                pool-few = omega arith;
-                pool-sized = r.pool-sized;
+                pool_few = omega arith;
+                pool_sized = r.pool_sized;
                 stack = bottom;
-                stack-few = omega arith;
-                stack-limit = r.stack-limit;
-                stack-sized = r.stack-sized;
+                stack_few = omega arith;
+                stack_limit = r.stack_limit;
+                stack_sized = r.stack_sized;
                 places = ends;
                 placed = refl;
-                places-few = omega arith;
-                places-limit = r.places-limit;
-                places-sized = r.places-sized;
+                places_few = omega arith;
+                places_limit = r.places_limit;
+                places_sized = r.places_sized;
                 locals = refl;
-                locals-few = omega arith;
-                locals-sized = r.locals-sized;
-                tree-limit = r.tree-limit;
-                nodes-few = omega arith;
-                derivations = λ enough. record { kept = []; recorded = start refl; on_stack = bottom; in-places = ends };
+                locals_few = omega arith;
+                locals_sized = r.locals_sized;
+                tree_limit = r.tree_limit;
+                nodes_few = omega arith;
+                derivations = λ enough. record { kept = []; recorded = start refl; on_stack = bottom; in_places = ends };
               }

@@ -19,13 +19,13 @@ pub record Unnumbered (f numbers : List ℕ) : Type 0 where
 
 -- the tables are as large as the limits ask, the limits within those of document 01, and the tree entries no more than a proof can use
 pub record Roomy (limits : Limits) (pool stack places locals tree : List ℕ) : Type 0 where
-  pub pool-sized : limits.pool ≤ length pool
-  pub stack-limit : limits.stack ≤ 1024
-  pub stack-sized : 10 * limits.stack ≤ length stack
-  pub places-limit : limits.places ≤ 4096
-  pub places-sized : 10 * limits.places ≤ length places
-  pub locals-sized : 12288 ≤ length locals
-  pub tree-limit : length tree ≤ 131072
+  pub pool_sized : limits.pool ≤ length pool
+  pub stack_limit : limits.stack ≤ 1024
+  pub stack_sized : 10 * limits.stack ≤ length stack
+  pub places_limit : limits.places ≤ 4096
+  pub places_sized : 10 * limits.places ≤ length places
+  pub locals_sized : 12288 ≤ length locals
+  pub tree_limit : length tree ≤ 131072
 
 -- the proof of the statement at `at` is admitted as the definition admits it; where it goes on, the table has the first variables
 pub record Begins (f stmts : List ℕ) (at : ℕ) (text numbers numbers' : List ℕ) (answer : Outcome) : Type 0 where

@@ -49,25 +49,25 @@ module _ {f syms stmts syms' stmts' : List ℕ} {v : Verdict} (ch : Checked f sy
     pub symbols-fit : length syms ≡ 4096 → n ≤ length syms'
     symbols-fit size =
         let few = (good-facts f good.0).symbol-count in
-        front_fits (index f).symbols syms ch.symbols-laid symbols-many size (omega (arith, database-symbols f))
+        front_fits (index f).symbols syms ch.symbols_laid symbols-many size (omega (arith, database-symbols f))
 
     pub statements-fit : length stmts ≡ 4096 → k ≤ length stmts'
     statements-fit size =
-        let few = (good-facts f good.0).statement-count in
-        front_fits (index f).statements stmts ch.statements-laid statements-many size (omega (arith, database-statements f))
+        let few = (good-facts f good.0).statement_count in
+        front_fits (index f).statements stmts ch.statements_laid statements-many size (omega (arith, database-statements f))
 
     pub symbols-length : n ≡ length (take n syms')
-    symbols-length = front_length (index f).symbols syms ch.symbols-laid symbols-many
+    symbols-length = front_length (index f).symbols syms ch.symbols_laid symbols-many
 
     pub statements-length : k ≡ length (take k stmts')
-    statements-length = front_length (index f).statements stmts ch.statements-laid statements-many
+    statements-length = front_length (index f).statements stmts ch.statements_laid statements-many
 
     pub filed : Filed f (take n syms') (take k stmts')
     filed =
         record {
           good = good.0;
-          symbols = front (index f).symbols syms ch.symbols-laid symbols-many;
-          statements = front (index f).statements stmts ch.statements-laid statements-many;
+          symbols = front (index f).symbols syms ch.symbols_laid symbols-many;
+          statements = front (index f).statements stmts ch.statements_laid statements-many;
         }
 
     -- the answer for a good file

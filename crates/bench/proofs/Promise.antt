@@ -38,9 +38,9 @@ pub one-outcome : (f : List ℕ) (p : ℕ) (pool stack places : List ℕ) (x y :
     → Verified f p pool stack places y.pool y.stack y.places y.told → x ≡ y
 one-outcome f p pool stack places x y v w =
     let t = one_told v.says w.says in
-    let a : x.pool ≡ y.pool = v.zeroed.pool-zero ∙ sym w.zeroed.pool-zero in
-    let b : x.stack ≡ y.stack = v.zeroed.stack-zero ∙ sym w.zeroed.stack-zero in
-    let c : x.places ≡ y.places = v.zeroed.places-zero ∙ sym w.zeroed.places-zero in
+    let a : x.pool ≡ y.pool = v.zeroed.pool_zero ∙ sym w.zeroed.pool_zero in
+    let b : x.stack ≡ y.stack = v.zeroed.stack_zero ∙ sym w.zeroed.stack_zero in
+    let c : x.places ≡ y.places = v.zeroed.places_zero ∙ sym w.zeroed.places_zero in
     let whole : outcome x.told x.pool x.stack x.places ≡ outcome y.told y.pool y.stack y.places = cc in
     whole
 

@@ -21,7 +21,7 @@ use Rattle.facts.proofs.Unique.{good-answer, RefusedAt, verdict-decides}
 use Rattle.machine.specs.Answer.{Answer, accepted, refused, turned_away, not_provable, number, place, steps}
 use Rattle.machine.specs.Bench.{answer, answer_good, judged, ended}
 use Rattle.machine.specs.Memory.{Room, limited}
-use Rattle.machine.specs.Promise.{Counted, all-steps, some-steps}
+use Rattle.machine.specs.Promise.{Counted, all_steps, some_steps}
 use Rattle.machine.specs.Run.{run}
 use Rattle.machine.proofs.Counts.{run-counted}
 use Rattle.machine.proofs.Numbers.{number-range}
@@ -30,8 +30,8 @@ use Rattle.told.specs.Says.{Says}
 
 pub record Small (a : Answer) : Type 0 where
   pub number_small : number a < 256
-  pub place-small : place a < 16777216
-  pub steps-small : steps a < 4294967296
+  pub place_small : place a < 16777216
+  pub steps_small : steps a < 4294967296
 
 small-number : (a : Answer) → number a < 256
 small-number a = by (number-range a)
@@ -42,12 +42,12 @@ small-number a = by (number-range a)
     by (inr (inr r)) = omega (arith, r.1)
 
 small : (a : Answer) → place a ≤ 1048576 → steps a ≤ 65536 → Small a
-small a p s = record { number_small = small-number a; place-small = omega arith; steps-small = omega arith }
+small a p s = record { number_small = small-number a; place_small = omega arith; steps_small = omega arith }
 
 counted-small : {L : ℕ} (a : Answer) → L ≤ 65536 → Counted L a → Small a
 unfolding place steps
-counted-small (accepted L done consumed tree) few (all-steps e s) = small _ (omega arith) (omega arith)
-counted-small (refused why at done) few (some-steps q s) = small _ (omega arith) (omega arith)
+counted-small (accepted L done consumed tree) few (all_steps e s) = small _ (omega arith) (omega arith)
+counted-small (refused why at done) few (some_steps q s) = small _ (omega arith) (omega arith)
 counted-small (turned_away why at) few counted = elim counted [ ]
 counted-small not_provable few counted = elim counted [ ]
 
@@ -84,12 +84,12 @@ module _ (f : List ℕ) (why : Refusal) (at : ℕ) (e : verdict f ≡ Refused wh
       by false t = let l = below_false _ _ t in let h = inside-place in omega arith
 
 module _ (f : List ℕ) (p : ℕ) (room : Room) where
-  text-few : GoodFile f → (statement_of (database f) p).kind ≡ 5 → length (statement_of (database f) p).text ≤ 65536
+  text_few : GoodFile f → (statement_of (database f) p).kind ≡ 5 → length (statement_of (database f) p).text ≤ 65536
   unfolding statement_of
-  text-few good five = by (below p (length (database f).statements)) refl
+  text_few good five = by (below p (length (database f).statements)) refl
     where
       by : (t : Bool) → below p (length (database f).statements) ≡ t → length (statement_of (database f) p).text ≤ 65536
-      by true t = ((good-facts f good).statement p (below_true _ _ t)).text-size five
+      by true t = ((good-facts f good).statement p (below_true _ _ t)).text_size five
       by false t =
           let past = below_false _ _ t in
           let z : (statement_of (database f) p).kind ≡ 0 = ap (λ (st : Statement). st.kind) (get_or-eq_default (database f).statements _ past) in
@@ -101,7 +101,7 @@ module _ (f : List ℕ) (p : ℕ) (room : Room) where
     where
       by_kind : GoodFile f → (t : Bool) → equal (statement_of (database f) p).kind 5 ≡ t
           → Small (pick t (ended (run (database f) p (limited room) (statement_of (database f) p).text)) not_provable)
-      by_kind good true k = counted-small _ (text-few good (equal-true _ _ k)) (run-counted (database f) p (limited room) _)
+      by_kind good true k = counted-small _ (text_few good (equal-true _ _ k)) (run-counted (database f) p (limited room) _)
       by_kind good false k = none-small
 
       by-verdict : (v : Verdict) → verdict f ≡ v → Small (judged v (answer_good (database f) p room))

@@ -12,9 +12,9 @@ room_in pool stack places = room_lent (length pool) (length stack) (length place
 
 -- all that was lent is zero, in its whole length
 pub record Zeroed (pool stack places pool' stack' places' : List ℕ) : Type 0 where
-  pub pool-zero : pool' ≡ cleared pool
-  pub stack-zero : stack' ≡ cleared stack
-  pub places-zero : places' ≡ cleared places
+  pub pool_zero : pool' ≡ cleared pool
+  pub stack_zero : stack' ≡ cleared stack
+  pub places_zero : places' ≡ cleared places
 
 -- one statement: the answer to file, statement number and room, and nothing is left in what was lent
 pub record Verified (f : List ℕ) (p : ℕ) (pool stack places pool' stack' places' : List ℕ) (told : Told) : Type 0 where

@@ -38,12 +38,12 @@ long-few db entries output (accepted at done consumed tree) s = tried (below ent
   where
     tried : (t u : Bool) → fits db tree (min output 65536) ≡ u
         → Few (pick t (nothing_written 60 at done) (pick u (written done (long_text db tree)) (nothing_written 61 at done)))
-    tried true u e = nothing-few 60 at done (omega arith) s.place-small s.steps-small
-    tried false true e = let l = at_most-true _ _ (sym (fits-exactly db tree (min output 65536)) ∙ e) in written-few done (long_text db tree) (omega arith) s.steps-small
-    tried false false e = nothing-few 61 at done (omega arith) s.place-small s.steps-small
-long-few db entries output (refused why at done) s = nothing-few _ _ _ s.number_small s.place-small s.steps-small
-long-few db entries output (turned_away why at) s = nothing-few _ _ _ s.number_small s.place-small s.steps-small
-long-few db entries output not_provable s = nothing-few _ _ _ s.number_small s.place-small s.steps-small
+    tried true u e = nothing-few 60 at done (omega arith) s.place_small s.steps_small
+    tried false true e = let l = at_most-true _ _ (sym (fits-exactly db tree (min output 65536)) ∙ e) in written-few done (long_text db tree) (omega arith) s.steps_small
+    tried false false e = nothing-few 61 at done (omega arith) s.place_small s.steps_small
+long-few db entries output (refused why at done) s = nothing-few _ _ _ s.number_small s.place_small s.steps_small
+long-few db entries output (turned_away why at) s = nothing-few _ _ _ s.number_small s.place_small s.steps_small
+long-few db entries output not_provable s = nothing-few _ _ _ s.number_small s.place_small s.steps_small
 
 module _ {f : List ℕ} {p : ℕ} {pool stack places tree output pool' stack' places' tree' output' : List ℕ} {t : Told}
     (w : WritesLongForm f p pool stack places tree output pool' stack' places' tree' output' t) where
@@ -61,7 +61,7 @@ module _ {f : List ℕ} {p : ℕ} {pool stack places tree output pool' stack' pl
         answers = is ∙ rw (w.says.number, w.says.place, w.says.steps) refl;
         written = w.says.written;
         zeroed = w.zeroed;
-        tree-zero = w.tree-zero;
+        tree_zero = w.tree_zero;
       }
 
 -- no two outcomes keep the promise
@@ -70,10 +70,10 @@ pub one-long-word : {f : List ℕ} {p : ℕ} {pool stack places tree output a b 
 one-long-word x y = (
   x.answers ∙ sym y.answers,
   (
-    x.zeroed.pool-zero ∙ sym y.zeroed.pool-zero,
+    x.zeroed.pool_zero ∙ sym y.zeroed.pool_zero,
     (
-      x.zeroed.stack-zero ∙ sym y.zeroed.stack-zero,
-      (x.zeroed.places-zero ∙ sym y.zeroed.places-zero, (x.tree-zero ∙ sym y.tree-zero, x.written ∙ sym y.written)),
+      x.zeroed.stack_zero ∙ sym y.zeroed.stack_zero,
+      (x.zeroed.places_zero ∙ sym y.zeroed.places_zero, (x.tree_zero ∙ sym y.tree_zero, x.written ∙ sym y.written)),
     ),
   ),
 )

@@ -31,7 +31,7 @@ module _ {f : List ℕ} {p : ℕ} {pool stack places pool' stack' places' : List
   pub told-small : (t.number < 256) × ((t.place < 16777216) × (t.steps < 4294967296))
   told-small =
       let s = answer-small f p (room_in pool stack places) in
-      (rw v.says.number s.number_small, (rw v.says.place s.place-small, rw v.says.steps s.steps-small))
+      (rw v.says.number s.number_small, (rw v.says.place s.place_small, rw v.says.steps s.steps_small))
 
   pub verified-word : {word : ℕ} → word ≡ packed_answer t.number t.place t.steps
       → VerifiedWord f p pool stack places pool' stack' places' word
@@ -53,7 +53,7 @@ module _ (f : List ℕ) where
   all-few : {n k : ℕ} → verdict f ≡ verdicts.Good n k → length (provable (database f)) ≤ 4096
   unfolding provable
   all-few {n} {k} e =
-      let few = (good-facts f (good-answer f n k e).0).statement-count in
+      let few = (good-facts f (good-answer f n k e).0).statement_count in
       let p = provable-few (database f) (length (database f).statements) 0 in
       omega arith
 
@@ -66,10 +66,10 @@ module _ (f : List ℕ) where
       omega arith
   count_small (verdicts.Refused why at) e is = let z : ◌≡◌ {A = ℕ} 0 1 = cc in absurd (omega arith)
 
-  place-small : (v : Verdict) {why : Refusal} {at : ℕ} → verdict f ≡ v → Refused why at ≡ walked_of v (database f) → at ≤ 1048576
+  place_small : (v : Verdict) {why : Refusal} {at : ℕ} → verdict f ≡ v → Refused why at ≡ walked_of v (database f) → at ≤ 1048576
   unfolding walked_of
-  place-small (verdicts.Good n k) e is = let z : ◌≡◌ {A = ℕ} 0 1 = cc in absurd (omega arith)
-  place-small (verdicts.Refused why' at') {why} {at} e is =
+  place_small (verdicts.Good n k) e is = let z : ◌≡◌ {A = ℕ} 0 1 = cc in absurd (omega arith)
+  place_small (verdicts.Refused why' at') {why} {at} e is =
       let small = refused-place f why' at' e in
       let same : at ≡ at' = cc in
       omega arith
@@ -80,7 +80,7 @@ module _ {f pool stack places answers pool' stack' places' answers' : List ℕ} 
       → (n < 256) × ((at < 16777216) × (0 < 4294967296))
   refusal-small {why} {at} {n} is e =
       let r = file-number why in
-      let s = place-small f (verdict f) refl (sym is ∙ w.answered.counts) in
+      let s = place_small f (verdict f) refl (sym is ∙ w.answered.counts) in
       (omega (arith, r.1), (omega arith, omega arith))
 
   pub answered-small : {count : ℕ} → walked ≡ Answered count → (0 < 256) × ((0 < 16777216) × (count < 4294967296))
@@ -92,12 +92,12 @@ module _ {f pool stack places answers pool' stack' places' answers' : List ℕ} 
   pub refused-word : {why : Refusal} {at n word : ℕ} → walked ≡ Refused why at → n ≡ number_of why → word ≡ packed_answer n at 0
       → AllWords f pool stack places answers pool' stack' places' answers' word
   unfolding walked_word
-  refused-word {why} {at} is e word-is = walked-word (word-is ∙ rw (is, e) refl)
+  refused-word {why} {at} is e word_is = walked-word (word_is ∙ rw (is, e) refl)
 
   pub answered-word : {count word : ℕ} → walked ≡ Answered count → word ≡ packed_answer 0 0 count
       → AllWords f pool stack places answers pool' stack' places' answers' word
   unfolding walked_word
-  answered-word is word-is = walked-word (word-is ∙ rw is refl)
+  answered-word is word_is = walked-word (word_is ∙ rw is refl)
 
 -- no two outcomes keep the promise of the call for one statement
 pub one_word : {f : List ℕ} {p : ℕ} {pool stack places a b c a₂ b₂ c₂ : List ℕ} {v w : ℕ} → VerifiedWord f p pool stack places a b c v
@@ -105,8 +105,8 @@ pub one_word : {f : List ℕ} {p : ℕ} {pool stack places a b c a₂ b₂ c₂ 
 one_word x y = (
   x.answers ∙ sym y.answers,
   (
-    x.zeroed.pool-zero ∙ sym y.zeroed.pool-zero,
-    (x.zeroed.stack-zero ∙ sym y.zeroed.stack-zero, x.zeroed.places-zero ∙ sym y.zeroed.places-zero),
+    x.zeroed.pool_zero ∙ sym y.zeroed.pool_zero,
+    (x.zeroed.stack_zero ∙ sym y.zeroed.stack_zero, x.zeroed.places_zero ∙ sym y.zeroed.places_zero),
   ),
 )
 
@@ -116,10 +116,10 @@ pub one-walk : {f pool stack places answers a b c d a₂ b₂ c₂ d₂ : List �
 one-walk x y = (
   x.counts ∙ sym y.counts,
   (
-    x.zeroed.pool-zero ∙ sym y.zeroed.pool-zero,
+    x.zeroed.pool_zero ∙ sym y.zeroed.pool_zero,
     (
-      x.zeroed.stack-zero ∙ sym y.zeroed.stack-zero,
-      (x.zeroed.places-zero ∙ sym y.zeroed.places-zero, x.lays ∙ sym y.lays),
+      x.zeroed.stack_zero ∙ sym y.zeroed.stack_zero,
+      (x.zeroed.places_zero ∙ sym y.zeroed.places_zero, x.lays ∙ sym y.lays),
     ),
   ),
 )

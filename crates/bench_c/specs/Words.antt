@@ -36,4 +36,4 @@ pub record LongWord (f : List ℕ) (p : ℕ) (pool stack places tree output pool
   pub answers : word ≡ long_word (long_answer f p (room_in pool stack places) (length tree) (length output))
   pub written : output' ≡ laid (long_answer f p (room_in pool stack places) (length tree) (length output)).text output
   pub zeroed : Zeroed pool stack places pool' stack' places'
-  pub tree-zero : tree' ≡ cleared tree
+  pub tree_zero : tree' ≡ cleared tree

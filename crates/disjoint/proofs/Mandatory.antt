@@ -63,7 +63,7 @@ filed-mandatory {f} {syms} {stmts} {a} {at} filed loc =
     let t = loc.there in
     ap (λ (st : Statement). floats_at f stmts st.hyps) (sym (located-statement loc))
     ∙ floats-mandatory (database f) f stmts (statement_of (database f) a).hyps
-    (λ h m. filed-statement filed (let e = (good.hyps-active h m).earlier in omega arith))
+    (λ h m. filed-statement filed (let e = (good.hyps_active h m).earlier in omega arith))
 
 pub mandatory-told : (f stmts : List ℕ) (at v : ℕ) {r : Bool} → r ≡ among (floats_at f stmts (statement_at f at).hyps) v → TellsMandatory f stmts at v r
 mandatory-told f stmts at v e = record { tells = λ syms a filed loc. e ∙ ap (λ (ms : List ℕ). among ms v) (filed-mandatory filed loc) }

@@ -125,7 +125,7 @@ module _ {f syms : List ℕ} {at : ℕ} {stack pool : List ℕ} {c : Counts} whe
       one stmts b l m file-is stack_is pool-is w loc s e (over g p (over h q d)) = absurd (omega arith)
       one stmts b l m file-is stack_is pool-is w loc s e (over g p bottom) =
           let same_row : p.row ≡ row = row_one p.at (rw stack_is there) in
-          let few = s.pool-few in
-          let large = s.pool-sized in
+          let few = s.pool_few in
+          let large = s.pool_sized in
           let used : c.used ≤ length l.pool = omega arith in
           claim-judged _ w loc (rw pool-is at used) (rw (same_row, file-is, pool-is) at p.means) is

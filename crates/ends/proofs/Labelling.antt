@@ -84,34 +84,34 @@ shown-labelled : {b : Bench} {l : Lent} {c c' : Counts} {m m' : Memory} {locals'
 shown-labelled {b} {l} {c} {c'} {m} {m'} from to label is s t one adds =
     record {
       numbered = t.numbered;
-      variables-few = t.variables-few;
+      variables_few = t.variables_few;
       begun = t.begun;
-      mandatory-known = t.mandatory-known;
-      numbers-sized = t.numbers-sized;
+      mandatory_known = t.mandatory_known;
+      numbers_sized = t.numbers_sized;
       pool = t.pool;
-      pool-few = t.pool-few;
-      pool-sized = t.pool-sized;
+      pool_few = t.pool_few;
+      pool_sized = t.pool_sized;
       stack = t.stack;
-      stack-few = t.stack-few;
-      stack-limit = t.stack-limit;
-      stack-sized = t.stack-sized;
+      stack_few = t.stack_few;
+      stack_limit = t.stack_limit;
+      stack_sized = t.stack_sized;
       places = t.places;
       placed = t.placed;
-      places-few = t.places-few;
-      places-limit = t.places-limit;
-      places-sized = t.places-sized;
+      places_few = t.places_few;
+      places_limit = t.places_limit;
+      places_sized = t.places_sized;
       locals = rw (s.locals, ← s.placed, is) (sym (adds.adds b.text));
-      locals-few = let few = s.locals-few in let before = s.placed in let after = t.placed in omega arith;
-      locals-sized = let sized = s.locals-sized in let same = adds.sized in omega arith;
-      tree-limit = t.tree-limit;
-      nodes-few = t.nodes-few;
+      locals_few = let few = s.locals_few in let before = s.placed in let after = t.placed in omega arith;
+      locals_sized = let sized = s.locals_sized in let same = adds.sized in omega arith;
+      tree_limit = t.tree_limit;
+      nodes_few = t.nodes_few;
       derivations = t.derivations;
     }
 
 -- what is found among the labels of the memory
 found-there : {b : Bench} {l : Lent} {c : Counts} {m : Memory} {locals : List ℕ} {found : Option ℕ} (label : List ℕ) {text : List ℕ} → Shown b l c m → b.text ≡ text
     → l.locals ≡ locals → place_of label (locals_of text locals c.locals) ≡ found → place_of label m.locals ≡ found
-found-there label s text-is locals-is finds = rw (s.locals, text-is, locals-is) finds
+found-there label s text_is locals_is finds = rw (s.locals, text_is, locals_is) finds
 
 module _ {text stack locals places : List ℕ} {from to : ℕ} {c : Counts} {limit : ℕ} {found : FoundPlace}
     (finds : place_of (range from to text) (locals_of text locals c.locals) ≡ place_found found) where
@@ -119,7 +119,7 @@ module _ {text stack locals places : List ℕ} {from to : ℕ} {c : Counts} {lim
   pub gives-duplicate : {k : PlaceNo} → found ≡ Place k → GivesLocal text from to stack locals places c limit locals places (Refused LocalLabelDuplicate)
   unfolding give_local place_found is_some
   gives-duplicate is =
-      record { follows = λ b l m text-is limit_is stack_is locals-is places_is s. ends-stop _ (ap is_some (found-there (range from to text) s text-is locals-is finds ∙ ap place_found is)) }
+      record { follows = λ b l m text_is limit_is stack_is locals_is places_is s. ends-stop _ (ap is_some (found-there (range from to text) s text_is locals_is finds ∙ ap place_found is)) }
 
   -- there is none: the top takes its place
   pub gives-new : {locals' places' : List ℕ} {answer : Outcome} → found ≡ NoPlace → LaysLocal locals c from to locals'
@@ -127,24 +127,24 @@ module _ {text stack locals places : List ℕ} {from to : ℕ} {c : Counts} {lim
   unfolding give_local place_found is_some labelled
   gives-new {locals'} {places'} {answer} is lays saves =
       record {
-        follows = λ b l m text-is limit_is stack_is locals-is places_is s.
-            ends-skip LocalLabelDuplicate (ap is_some (found-there (range from to text) s text-is locals-is finds ∙ ap place_found is))
-            (by-saved b l m text-is locals-is s saves.saved saves.is (saves.saves.follows b l m limit_is stack_is places_is s));
+        follows = λ b l m text_is limit_is stack_is locals_is places_is s.
+            ends-skip LocalLabelDuplicate (ap is_some (found-there (range from to text) s text_is locals_is finds ∙ ap place_found is))
+            (by-saved b l m text_is locals_is s saves.saved saves.is (saves.saves.follows b l m limit_is stack_is places_is s));
       }
     where
       by-saved : (b : Bench) (l : Lent) (m : Memory) → b.text ≡ text → l.locals ≡ locals → Shown b l c m → (o : Outcome) → answer ≡ labelled (c.locals + 1) o
           → Ends (Shown b (with_places_table l places')) (save_top b.room m m.stack) o
           → Ends (Shown b (with_labelled l locals' places')) (save_top b.room (add_local m (range from to text)) m.stack) answer
-      by-saved b l m text-is locals-is s (Go c') e ends =
+      by-saved b l m text_is locals_is s (Go c') e ends =
           let go = ends-go ends in
           let saved = saved-go b.room m (range from to text) m.stack go.1 in
           let one = saved.1 in
-          let few = s.locals-few in
+          let few = s.locals_few in
           let before = s.placed in
           let after = go.2.placed in
-          let room = go.2.places-few in
-          let limit = go.2.places-limit in
-          let shown = shown-labelled {locals' = locals'} from to (range from to text) (ap (range from to) (sym text-is)) s go.2 one (rw locals-is (lays.lays (omega arith))) in
+          let room = go.2.places_few in
+          let limit = go.2.places_limit in
+          let shown = shown-labelled {locals' = locals'} from to (range from to text) (ap (range from to) (sym text_is)) s go.2 one (rw locals_is (lays.lays (omega arith))) in
           rw (e, saved.0) (goes shown)
-      by-saved b l m text-is locals-is s (Refused why) e ends =
+      by-saved b l m text_is locals_is s (Refused why) e ends =
           rw (e, saved-stop b.room m (range from to text) m.stack (ends-refused ends)) refuses

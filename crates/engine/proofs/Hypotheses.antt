@@ -70,7 +70,7 @@ module _ (f syms : List ℕ) (at : ℕ) (table : List ℕ) (count : ℕ) (pool :
   prepares-many many =
       record {
         sized = m.sized;
-        pool-sized = refl;
+        pool_sized = refl;
         bounds = λ u c e. let z : ◌≡◌ {A = ℕ} 0 1 = cc in absurd (omega arith);
         kept = refl;
         past = refl;
@@ -89,7 +89,7 @@ module _ (f syms : List ℕ) (at : ℕ) (table : List ℕ) (count : ℕ) (pool :
     prepares-full spells kept past =
         record {
           sized = m.sized;
-          pool-sized = same_size;
+          pool_sized = same_size;
           bounds = λ u c e. let z : ◌≡◌ {A = ℕ} 0 1 = cc in absurd (omega arith);
           kept = kept;
           past = past;
@@ -109,7 +109,7 @@ module _ (f syms : List ℕ) (at : ℕ) (table : List ℕ) (count : ℕ) (pool :
     prepares-ready {end} low high spells kept past =
         record {
           sized = m.sized;
-          pool-sized = same_size;
+          pool_sized = same_size;
           bounds = λ u c e.
               let end_is : u ≡ end = cc in
               let count-is : c ≡ count' = cc in

@@ -62,7 +62,7 @@ module _ (db : Database) (p h : ℕ) (facts : Facts db) (there : h < length db.s
   unfolding numbered_by pick is_float expression_of expression floated
   float_known two v i =
       rw (equal-yes two)
-      (one (statement_of db h).symbols ((facts.statement h there).float-symbols two) i (numbered-grows vs (get_or (statement_of db h).symbols 1 0)).there)
+      (one (statement_of db h).symbols ((facts.statement h there).float_symbols two) i (numbered-grows vs (get_or (statement_of db h).symbols 1 0)).there)
     where
       one : (xs : List ℕ) → length xs ≡ 2 → v ∈ drop 1 xs → get_or xs 1 0 ∈ numbered vs (get_or (statement_of db h).symbols 1 0) → v ∈ numbered vs (get_or (statement_of db h).symbols 1 0)
       one [] e j n = absurd (omega arith)
@@ -83,8 +83,8 @@ module _ (db : Database) (p h : ℕ) (facts : Facts db) (there : h < length db.s
   unfolding numbered_by pick is_float is_variable expression_of expression
   essential-known three own v i var =
       let member = later (statement_of db h).symbols i in
-      let given = (facts.statement p asked).essential-given h own three v member
-      (record { defined = (facts.statement h there).symbols-defined v member; class = equal-true _ _ var }) in
+      let given = (facts.statement p asked).essential_given h own three v member
+      (record { defined = (facts.statement h there).symbols_defined v member; class = equal-true _ _ var }) in
       rw (equal-no (λ two. let z : ◌≡◌ {A = ℕ} 2 3 = sym two ∙ three in absurd (omega arith)))
       (known v (mandatory-there db (statement_of db p).hyps given.by v given.listed given.floats))
 
@@ -109,7 +109,7 @@ leaf-means {f} {syms} {p} {h} {at} {vs} ix loc asked may known held few sized le
     let facts = good-facts f ix.good in
     let defined = located-defined loc ix.good in
     let numbered = leaf-known (database f) p h facts loc.there asked may vs known in
-    let symbols-few = facts.symbol-count in
+    let symbols_few = facts.symbol-count in
     let counted = held.counts in
     record {
       typecode = leaf.head ∙ ap typecode (sym (located-statement loc));

@@ -77,10 +77,10 @@ module _ {f syms stmts text table froms tos sets pool stack tree places : List �
   runs-out r past =
       record {
         ranged = r;
-        froms-sized = refl;
-        tos-sized = refl;
-        sets-sized = refl;
-        tree-sized = refl;
+        froms_sized = refl;
+        tos_sized = refl;
+        sets_sized = refl;
+        tree_sized = refl;
         grows = λ c' e. let z : ◌≡◌ {A = ℕ} 0 1 = cc in absurd (omega arith);
         follows = λ p numbers locals m filed asked under x y z s.
             rw (place_none k m.places (let e = s.placed in omega arith)) refuses;
@@ -94,10 +94,10 @@ module _ {f syms stmts text table froms tos sets pool stack tree places : List �
     runs-recalled {stack'} {answer} plain r pushes =
         record {
           ranged = r;
-          froms-sized = refl;
-          tos-sized = refl;
-          sets-sized = refl;
-          tree-sized = refl;
+          froms_sized = refl;
+          tos_sized = refl;
+          sets_sized = refl;
+          tree_sized = refl;
           grows = λ c' e. let u = push-used pushes e in omega arith;
           follows = λ p numbers locals m filed asked under x y z s.
               rw (found k few s) (pushed-on p numbers locals m s (held k few s).it (held k few s).here (shown k few s));
@@ -110,7 +110,7 @@ module _ {f syms stmts text table froms tos sets pool stack tree places : List �
             let one : row ≡ q = row_one at there in
             push-ends s c.depth 0 c.nodes (marked_row row tag end) (record { proved = x; mark = mark_of text tag end }) pushes (omega arith) s.stack (λ kept d. d) (row-four at)
             (marked-means {row = row} tag end (rw one means)) refl
-            (records-none s 0 row.node x.tree (λ d. node-there x (let e = s.placed in omega arith) at here d.in-places))
+            (records-none s 0 row.node x.tree (λ d. node-there x (let e = s.placed in omega arith) at here d.in_places))
         pushed-on p numbers locals m s (applies a) here (applied q there t is before kind) =
             let z : ◌≡◌ {A = ℕ} 0 1 = sym plain ∙ (ap (λ (r : Row). r.tag) (row_one at there) ∙ t) in
             absurd (omega arith)
@@ -123,10 +123,10 @@ module _ {f syms stmts text table froms tos sets pool stack tree places : List �
     runs-applied {pool' = pool'} {stack'} {tree'} {answer} tagged runs =
         record {
           ranged = runs.ranged;
-          froms-sized = runs.froms-sized;
-          tos-sized = runs.tos-sized;
-          sets-sized = runs.sets-sized;
-          tree-sized = runs.tree-sized;
+          froms_sized = runs.froms_sized;
+          tos_sized = runs.tos_sized;
+          sets_sized = runs.sets_sized;
+          tree_sized = runs.tree_sized;
           grows = runs.grows;
           follows = λ p numbers locals m filed asked under x y z s.
               rw (found k few s) (applied-on p numbers locals m filed asked under x y z s (held k few s).it (shown k few s));

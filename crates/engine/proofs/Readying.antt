@@ -39,7 +39,7 @@ use Rattle.engine.proofs.Leaves.{by-grows, leaf-means}
 float-inside : (db : Database) (h n : ℕ) → Facts db → h < length db.statements → length db.symbols ≤ n → is_float (statement_of db h) ≡ true → floated (statement_of db h) < n
 unfolding is_float
 float-inside db h n facts there sized is =
-    let d = ((facts.statement h there).float-variable (equal-true _ _ is)).defined in
+    let d = ((facts.statement h there).float_variable (equal-true _ _ is)).defined in
     omega arith
 
 -- where a place is taken there was room, and the counts have one place more
@@ -61,7 +61,7 @@ module _ {f syms : List ℕ} {at : ℕ} {numbers pool : List ℕ} {c : Counts} {
     unfolding result_of
     refused-is stmts p text stack places locals tree h m ix loc s =
         prep.follows h m (room_of limits) ix loc refl s.pool
-        (float-inside (database f) h (length numbers) (good-facts f ix.good) loc.there s.numbers-sized) s.numbered
+        (float-inside (database f) h (length numbers) (good-facts f ix.good) loc.there s.numbers_sized) s.numbered
 
     pub places-refused : (places : List ℕ) → PlacesHypothesis f syms at numbers pool places c limits numbers' pool' places (Refused why)
     unfolding bind
@@ -82,20 +82,20 @@ module _ {f syms : List ℕ} {at : ℕ} {numbers pool : List ℕ} {c : Counts} {
         }
 
   module _ {to count' tag end : ℕ} {row : Row} (prep : Prepares f syms at numbers c.count pool c.used limits.pool numbers' pool' (prepared.Ready to count'))
-      (few : count' ≤ 256) (rises : c.used ≤ to) (room : to ≤ limits.pool) (pool-sized : length pool' ≡ length pool)
+      (few : count' ≤ 256) (rises : c.used ≤ to) (room : to ≤ limits.pool) (pool_sized : length pool' ≡ length pool)
       (leaf : LeafRow f syms numbers' at c.used to tag end row) where
     module _ (stmts : List ℕ) (p : ℕ) (text stack places locals tree : List ℕ) (h : ℕ) (m : Memory) (ix : Indexed f syms) (asked : p < length (database f).statements)
         (loc : Located f h at) (may : Supposable (database f) p h)
         (s : Shown (bench f syms stmts p limits text) (lent numbers pool stack places locals tree) c m) where
       inside : is_float (statement_of (database f) h) ≡ true → floated (statement_of (database f) h) < length numbers
-      inside = float-inside (database f) h (length numbers) (good-facts f ix.good) loc.there s.numbers-sized
+      inside = float-inside (database f) h (length numbers) (good-facts f ix.good) loc.there s.numbers_sized
 
       more : List ℕ
-      more = (by-grows (database f) p h (good-facts f ix.good) loc.there asked may m.variables s.mandatory-known).0
+      more = (by-grows (database f) p h (good-facts f ix.good) loc.there asked may m.variables s.mandatory_known).0
 
       grown-is : numbered_by (statement_of (database f) h) m.variables ≡ m.variables ++ more
       unfolding more
-      grown-is = (by-grows (database f) p h (good-facts f ix.good) loc.there asked may m.variables s.mandatory-known).1
+      grown-is = (by-grows (database f) p h (good-facts f ix.good) loc.there asked may m.variables s.mandatory_known).1
 
       ready-is : prepare_hypothesis (database f) (room_of limits) m h
           ≡ fine (ready (spend m (m.variables ++ more) (to - c.used)) (recalls (leaf_of (database f) h)))
@@ -107,13 +107,13 @@ module _ {f syms : List ℕ} {at : ℕ} {numbers pool : List ℕ} {c : Counts} {
       now-shown : Shown (bench f syms stmts p limits text) (with_pool (lent numbers pool stack places locals tree) numbers' pool') (with_used c count' to)
           (spend m (m.variables ++ more) (to - c.used))
       now-shown =
-          shown-grown s more numbers' pool' count' to (rw grown-is at (prep.numbers h m.variables to count' loc refl inside s.numbered)) few prep.sized pool-sized prep.kept rises room
+          shown-grown s more numbers' pool' count' to (rw grown-is at (prep.numbers h m.variables to count' loc refl inside s.numbered)) few prep.sized pool_sized prep.kept rises room
 
       means : Rattle.memory.specs.Shown.Means (database f) (m.variables ++ more) pool' to row (expression_of (database f) h)
       means =
           rw grown-is at
-          (leaf-means ix loc asked may s.mandatory-known (prep.numbers h m.variables to count' loc refl inside s.numbered) few
-          (let z = prep.sized in let y = s.numbers-sized in omega arith) leaf rises (prep.holds h to count' ix loc refl))
+          (leaf-means ix loc asked may s.mandatory_known (prep.numbers h m.variables to count' loc refl inside s.numbered) few
+          (let z = prep.sized in let y = s.numbers_sized in omega arith) leaf rises (prep.holds h to count' ix loc refl))
 
     pub places-added : {places places' : List ℕ} {answer : Outcome} → tag ≡ 0 → 10 * limits.places ≤ length places
         → AddsPlace places (with_used c count' to) limits.places row places' answer
@@ -135,7 +135,7 @@ module _ {f syms : List ℕ} {at : ℕ} {numbers pool : List ℕ} {c : Counts} {
               rw (ready-is stmts p text stack places locals tree h m ix asked loc may s)
               (place-ends (now-shown stmts p text stack places locals tree h m ix asked loc may s) row (recalls (leaf_of (database f) h)) adds
               (λ free. recalled row (row_new row c.places places (omega arith) leaf.sized) (leaf.tag_is ∙ zero-tag) (means stmts p text stack places locals tree h m ix asked loc may s))
-              (λ free d. recalled row (row_new row c.places places (omega arith) leaf.sized) (hypothesis loc leaf.word-is)));
+              (λ free d. recalled row (row_new row c.places places (omega arith) leaf.sized) (hypothesis loc leaf.word_is)));
         }
 
     pub pushes-added : {stack stack' : List ℕ} {answer : Outcome} → Pushes stack (with_used c count' to) limits.stack c.depth row stack' answer
@@ -148,5 +148,5 @@ module _ {f syms : List ℕ} {at : ℕ} {numbers pool : List ℕ} {c : Counts} {
               let now = now-shown stmts p text stack places locals tree h m ix asked loc may s in
               rw (ready-is stmts p text stack places locals tree h m ix asked loc may s)
               (push-ends now c.depth 0 c.nodes row (record { proved = leaf_of (database f) h; mark = mark_of text tag end }) pushes (omega arith) now.stack (λ kept d. d) leaf.sized
-              (means stmts p text stack places locals tree h m ix asked loc may s) (rw (leaf.tag_is, leaf.end_is) refl) (records-none now 0 row.node (leaf_of (database f) h).tree (λ d. hypothesis loc leaf.word-is)));
+              (means stmts p text stack places locals tree h m ix asked loc may s) (rw (leaf.tag_is, leaf.end_is) refl) (records-none now 0 row.node (leaf_of (database f) h).tree (λ d. hypothesis loc leaf.word_is)));
         }

@@ -42,7 +42,7 @@ frame-placed {places} {a} {c} {limit} {row} adds head tag four =
     record {
       taken = place-counts adds;
       follows = λ b l m limit_is places_is may s.
-          let fits = s.places-sized in
+          let fits = s.places_sized in
           place-ends s row (applies a) (rw (limit_is, places_is) adds)
           (λ free. applied row (row_new row c.places l.places (omega arith) four) tag head may.earlier may.kind)
           (λ free d. applied);
@@ -117,7 +117,7 @@ module _ {f syms stmts : List ℕ} {p : ℕ} {label : List ℕ} {step : Prepared
 listed-supposable : {f : List ℕ} {syms stmts : List ℕ} {p h : ℕ} → Filed f syms stmts → p < length (database f).statements → h ∈ (statement_of (database f) p).hyps
     → Supposable (database f) p h
 listed-supposable {f} {p = p} {h} w asked listed =
-    let active = ((good-facts f w.good).statement p asked).hyps-active h listed in
+    let active = ((good-facts f w.good).statement p asked).hyps_active h listed in
     record { earlier = active.earlier; kind = active.kind; own = inr listed }
 
 -- one place after i of them
@@ -147,9 +147,9 @@ pub record PreloadedTo (f syms stmts : List ℕ) (p : ℕ) (limits : Limits) (te
 -- so far: i places more are taken, and what is left is what the whole is
 pub record Preloading (f syms stmts : List ℕ) (at : ℕ) (limits : Limits) (numbers₀ pool₀ places₀ : List ℕ) (c₀ : Counts) (i : ℕ) (numbers pool places : List ℕ)
     (c : Counts) : Type 0 where
-  pub numbers-sized : length numbers ≡ length numbers₀
-  pub pool-sized : length pool ≡ length pool₀
-  pub places-sized : length places ≡ length places₀
+  pub numbers_sized : length numbers ≡ length numbers₀
+  pub pool_sized : length pool ≡ length pool₀
+  pub places_sized : length places ≡ length places₀
   pub few : i ≤ length (statement_at f at).hyps
   pub taken : Taken limits c₀ i c
   pub goes_on : (p : ℕ) (text stack locals tree : List ℕ) (m : Memory) → Filed f syms stmts → Located f p at
@@ -160,9 +160,9 @@ pub preload-none : {f syms stmts : List ℕ} {at : ℕ} {limits : Limits} {numbe
     → Preloading f syms stmts at limits numbers pool places c 0 numbers pool places c
 preload-none bounds =
     record {
-      numbers-sized = refl;
-      pool-sized = refl;
-      places-sized = refl;
+      numbers_sized = refl;
+      pool_sized = refl;
+      places_sized = refl;
       few = omega arith;
       taken = record { bounded = bounds; places = omega arith; locals = refl; depth = refl; used = omega arith };
       goes_on = λ p text stack locals tree m w loc s. record { memory = m; shown = s; left = refl };
@@ -199,11 +199,11 @@ module _ {f syms stmts : List ℕ} {at : ℕ} {limits : Limits} {numbers₀ pool
     pub preload-more : {c' : Counts} → answer ≡ Go c' → length numbers' ≡ length numbers₀ → length pool' ≡ length pool₀ → length places' ≡ length places₀
         → Preloading f syms stmts at limits numbers₀ pool₀ places₀ c₀ (i + 1) numbers' pool' places' c'
     unfolding bind
-    preload-more {c'} e numbers-sized pool-sized places-sized =
+    preload-more {c'} e numbers_sized pool_sized places_sized =
         record {
-          numbers-sized = numbers-sized;
-          pool-sized = pool-sized;
-          places-sized = places-sized;
+          numbers_sized = numbers_sized;
+          pool_sized = pool_sized;
+          places_sized = places_sized;
           few = omega arith;
           taken = taken_more so_far.taken (placed.taken c' e);
           goes_on = λ p text stack locals tree m w loc s.

@@ -29,7 +29,7 @@ result_of db h m used (Refused why) = stop why
 -- the hypothesis at `at` is prepared as the definition prepares it; where it is ready, the pool has its packed symbols and the table its variable
 pub record Prepares (f syms : List ℕ) (at : ℕ) (table : List ℕ) (count : ℕ) (pool : List ℕ) (used limit : ℕ) (table' pool' : List ℕ) (answer : Prepared) : Type 0 where
   pub sized : length table' ≡ length table
-  pub pool-sized : length pool' ≡ length pool
+  pub pool_sized : length pool' ≡ length pool
   pub bounds : (used' count' : ℕ) → answer ≡ prepared.Ready used' count' → (count' ≤ 256) × ((used ≤ used') × (used' ≤ limit))
   pub kept : take used pool' ≡ take used pool
   pub past : drop limit pool' ≡ drop limit pool

@@ -24,10 +24,10 @@ marked_row row tag end =
 pub record RunsPlace (f syms stmts text table froms tos sets pool stack tree places : List ℕ) (k : ℕ) (c : Counts) (limits : Limits) (tag end : ℕ)
     (froms' tos' sets' pool' stack' tree' : List ℕ) (answer : Outcome) : Type 0 where
   pub ranged : Ranged froms' tos' c.used
-  pub froms-sized : length froms' ≡ length froms
-  pub tos-sized : length tos' ≡ length tos
-  pub sets-sized : length sets' ≡ length sets
-  pub tree-sized : length tree' ≡ length tree
+  pub froms_sized : length froms' ≡ length froms
+  pub tos_sized : length tos' ≡ length tos
+  pub sets_sized : length sets' ≡ length sets
+  pub tree_sized : length tree' ≡ length tree
   pub grows : (c' : Counts) → answer ≡ Go c' → c.used ≤ c'.used
   pub follows : (p : ℕ) (numbers locals : List ℕ) (m : Memory) → Filed f syms stmts → p < length (database f).statements → Under f p table
       → length (database f).symbols ≤ length froms → length (database f).symbols ≤ length tos → 4 * length (database f).symbols ≤ length sets

@@ -24,7 +24,7 @@ pub record LeafRow (f syms table : List ℕ) (at from to tag end : ℕ) (row : R
   pub to_is : row.to ≡ to
   pub tag_is : row.tag ≡ tag
   pub end_is : row.end ≡ end
-  pub word-is : row.node ≡ 2 * at
+  pub word_is : row.node ≡ 2 * at
   pub vars : RawGathered f syms table (drop 1 (symbols_at f at)) row.vars.words
   pub sized : length row.vars.words ≡ 4
 

@@ -16,7 +16,7 @@ use Rattle.facts.proofs.Kept.{pick-cases, refused-not-good}
 use Rattle.frames.proofs.Fine.{record-well-formed}
 use Rattle.facts.proofs.History.{History, good-history}
 use Rattle.facts.proofs.Decoded.{symbols-length, statements-length, symbol-read, statement-read}
-use Rattle.facts.proofs.GoodSymbols.{symbols-few, symbol-record, names_apart}
+use Rattle.facts.proofs.GoodSymbols.{symbols_few, symbol-record, names_apart}
 use Rattle.facts.proofs.GoodStatements.{statements-few, labels_apart, proof-read, statement-record}
 
 module _ (f : List ℕ) (ix : Index) (o : ℕ) (past : History f ix.symbols ix.statements false o) where
@@ -31,20 +31,20 @@ module _ (f : List ℕ) (ix : Index) (o : ℕ) (past : History f ix.symbols ix.s
   unfolding symbol_at statement_at
   decoded-facts =
       record {
-        symbol-count = rw (symbols-length f ix) (symbols-few f ix.symbols ix.statements false o past);
-        statement-count = rw (statements-length f ix) (statements-few f ix o past);
+        symbol-count = rw (symbols-length f ix) (symbols_few f ix.symbols ix.statements false o past);
+        statement_count = rw (statements-length f ix) (statements-few f ix o past);
         symbol = λ s h.
             let l = symbol-inside s h in
             rw (symbol-read f ix s l) (symbol-record f ix.symbols ix.statements false o past s l);
         statement = λ p h.
             let l = statement-inside p h in
             rw (statement-read f ix p l) (statement-record f ix o past p l);
-        names-differ = λ s t h g e.
+        names_differ = λ s t h g e.
             let l = symbol-inside s h in
             let m = symbol-inside t g in
             names_apart f ix.symbols ix.statements false o past s t l m
             (rw (symbol-read f ix s l, symbol-read f ix t m) at e);
-        labels-differ = λ p q h g e.
+        labels_differ = λ p q h g e.
             let l = statement-inside p h in
             let m = statement-inside q g in
             labels_apart f ix o past p q l m (rw (statement-read f ix p l, statement-read f ix q m) at e);
@@ -71,20 +71,20 @@ good-file-facts f good =
     let past = h.1 in
     record {
       size = good-size f good;
-      symbol-kind = λ s g.
+      symbol_kind = λ s g.
           let l = symbol-inside f (index f) h.0 past s g in
           rw (symbol-read f (index f) s l) (past.symbol s l).kind;
-      symbol-within = λ s g.
+      symbol_within = λ s g.
           let l = symbol-inside f (index f) h.0 past s g in
-          rw (symbol-read f (index f) s l) (record-well-formed f _ (past.symbol s l).faultless.record-row).within;
-      statement-kind = λ p g. rw (statement-read f (index f) p (statement-inside f (index f) h.0 past p g)) refl;
-      statement-within = λ p g.
+          rw (symbol-read f (index f) s l) (record-well-formed f _ (past.symbol s l).faultless.record_row).within;
+      statement_kind = λ p g. rw (statement-read f (index f) p (statement-inside f (index f) h.0 past p g)) refl;
+      statement_within = λ p g.
           let l = statement-inside f (index f) h.0 past p g in
-          rw (statement-read f (index f) p l) (record-well-formed f _ (past.statement p l).faultless.record-row).within;
-      proof-follows = λ p g.
+          rw (statement-read f (index f) p l) (record-well-formed f _ (past.statement p l).faultless.record_row).within;
+      proof_follows = λ p g.
           let l = statement-inside f (index f) h.0 past p g in
           rw (statement-read f (index f) p l) (λ k. (proof-read f (index f) h.0 past p l k).kind);
-      proof-within = λ p g.
+      proof_within = λ p g.
           let l = statement-inside f (index f) h.0 past p g in
           rw (statement-read f (index f) p l) (λ k. (proof-read f (index f) h.0 past p l k).within);
     }

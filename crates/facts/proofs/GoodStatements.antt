@@ -33,14 +33,14 @@ module _ (f : List ℕ) (ix : Index) (o : ℕ) (past : History f ix.symbols ix.s
   pub statements-few : length ix.statements ≤ 4096
   statements-few =
       Shapes.had-room ix.statements 4096
-      (λ p h. let j = past.statement p h in (limits-kept f _ _ _ j.faultless.limit-row).statement-room j.kind)
+      (λ p h. let j = past.statement p h in (limits-kept f _ _ _ j.faultless.limit_row).statement_room j.kind)
 
   -- no two labels are the same
   pub labels_apart : (p q : ℕ) → p < length ix.statements → q < length ix.statements
       → rest_at f (offset ix p) ≡ rest_at f (offset ix q) → p ≡ q
   labels_apart =
       fresh-differ f ix.statements
-      (λ i h. let j = past.statement i h in (label-fresh f _ _ j.faultless.label-row j.kind).unused)
+      (λ i h. let j = past.statement i h in (label-fresh f _ _ j.faultless.label_row j.kind).unused)
 
   module _ (p : ℕ) (h : p < length ix.statements) where
     -- the rows that judged it
@@ -48,13 +48,13 @@ module _ (f : List ℕ) (ix : Index) (o : ℕ) (past : History f ix.symbols ix.s
     judged = past.statement p h
 
     well : WellFormed f (offset ix p)
-    well = record-well-formed f (offset ix p) judged.faultless.record-row
+    well = record-well-formed f (offset ix p) judged.faultless.record_row
 
     limits : WithinLimits f (take judged.count ix.symbols) (take p ix.statements) (offset ix p)
-    limits = limits-kept f _ _ _ judged.faultless.limit-row
+    limits = limits-kept f _ _ _ judged.faultless.limit_row
 
     refers : Refers f (take judged.count ix.symbols) (take p ix.statements) (offset ix p)
-    refers = reference-good f _ _ _ judged.faultless.reference-row judged.kind
+    refers = reference-good f _ _ _ judged.faultless.reference_row judged.kind
 
     framed : asserts (kind_at f (offset ix p)) ≡ true
         → Framed f (take judged.count ix.symbols) (take p ix.statements) (offset ix p)
@@ -135,30 +135,30 @@ module _ (f : List ℕ) (ix : Index) (o : ℕ) (past : History f ix.symbols ix.s
     statement-record =
         let range = kind-range (kind_at f (offset ix p)) judged.kind in
         let size = rest-sized f (offset ix p) well (λ e. omega arith) in
-        let fresh = label-fresh f _ _ judged.faultless.label-row judged.kind in
+        let fresh = label-fresh f _ _ judged.faultless.label_row judged.kind in
         record {
-          kind-low = range.0;
-          kind-high = range.1;
-          label-some = size.some;
-          label-size = size.most;
-          label-bytes = λ b m. label-byte b (all-member label_byte _ fresh.bytes m);
-          symbols-some = Shapes.symbols-some f (offset ix p) well range.0 range.1;
-          symbols-few = Shapes.symbols-most f (offset ix p) limits.listed;
-          float-symbols = Shapes.float-two f (offset ix p);
-          hyps-few = rw (Shapes.hyps-count f (offset ix p)) limits.hyps;
-          pairs-few = rw (Shapes.pairs-count f (offset ix p)) limits.pairs;
-          no-hyps = λ k. Shapes.hyps-none f (offset ix p) (asserts-no _ k);
+          kind_low = range.0;
+          kind_high = range.1;
+          label_some = size.some;
+          label_size = size.most;
+          label_bytes = λ b m. label-byte b (all-member label_byte _ fresh.bytes m);
+          symbols_some = Shapes.symbols_some f (offset ix p) well range.0 range.1;
+          symbols_few = Shapes.symbols-most f (offset ix p) limits.listed;
+          float_symbols = Shapes.float-two f (offset ix p);
+          hyps_few = rw (Shapes.hyps-count f (offset ix p)) limits.hyps;
+          pairs_few = rw (Shapes.pairs-count f (offset ix p)) limits.pairs;
+          no_hyps = λ k. Shapes.hyps-none f (offset ix p) (asserts-no _ k);
           no_pairs = λ k. Shapes.pairs-none f (offset ix p) (asserts-no _ k);
-          symbols-defined = λ s m. rw (symbols-length f ix) (omega (arith, judged.within, judged-known f ix.symbols ix.statements p s judged m));
-          typecode-constant = constant-is f ix judged.count _ refers.typecode;
-          float-variable = λ k. variable-is f ix judged.count _ (refers.float k);
-          pair-first = λ q m. variable-is f ix judged.count _ (both_true _ _ (all-member _ _ refers.pairs m)).0;
-          pair-second = λ q m. variable-is f ix judged.count _ (both_true _ _ (all-member _ _ refers.pairs m)).1;
-          pair-differs = λ q m. equal-false _ _ (any-member equal_members _ (framed (Shapes.pair-asserts f (offset ix p) q m)).pairs m);
-          hyps-rise = Shapes.rising-strict 0 _ refers.rises;
-          hyps-active = listed-active;
-          claim-given = claim-bound;
-          essential-given = essential-bound;
+          symbols_defined = λ s m. rw (symbols-length f ix) (omega (arith, judged.within, judged-known f ix.symbols ix.statements p s judged m));
+          typecode_constant = constant-is f ix judged.count _ refers.typecode;
+          float_variable = λ k. variable-is f ix judged.count _ (refers.float k);
+          pair_first = λ q m. variable-is f ix judged.count _ (both_true _ _ (all-member _ _ refers.pairs m)).0;
+          pair_second = λ q m. variable-is f ix judged.count _ (both_true _ _ (all-member _ _ refers.pairs m)).1;
+          pair_differs = λ q m. equal-false _ _ (any-member equal_members _ (framed (Shapes.pair-asserts f (offset ix p) q m)).pairs m);
+          hyps_rise = Shapes.rising-strict 0 _ refers.rises;
+          hyps_active = listed-active;
+          claim_given = claim-bound;
+          essential_given = essential-bound;
           one_float = one-listed;
-          text-size = λ k. rw (text-read f (offset ix p) k) (text-fits k);
+          text_size = λ k. rw (text-read f (offset ix p) k) (text-fits k);
         }

@@ -94,7 +94,7 @@ pub judged-known : (f syms stmts : List ℕ) (p s : ℕ) (j : StatementJudged f 
     → s < j.count
 unfolding defined
 judged-known f syms stmts p s j m =
-    let r = reference-good f _ _ _ j.faultless.reference-row j.kind in
+    let r = reference-good f _ _ _ j.faultless.reference_row j.kind in
     let l : s < length (take j.count syms) = below_true _ _ (all-member (defined (take j.count syms)) _ r.symbols m) in
     omega (arith, length-take j.count syms)
 
@@ -158,12 +158,12 @@ module _ (f syms stmts : List ℕ) (owed : Bool) (o : ℕ) (past : History f sym
           → ProofRead f (next_at f (get_or stmts p 0))
       here (inl r) = r
       here (inr e) =
-          let k : kind_at f o ≡ 6 = proof-good f owed o now.proof-row e.1 in
+          let k : kind_at f o ≡ 6 = proof-good f owed o now.proof_row e.1 in
           rw e.0
           (record {
             kind = k;
-            within = (record-well-formed f o now.record-row).within;
-            size = (limits-kept f syms stmts o now.limit-row).text k;
+            within = (record-well-formed f o now.record_row).within;
+            size = (limits-kept f syms stmts o now.limit_row).text k;
           })
 
 history-grows : (f syms stmts : List ℕ) (owed : Bool) (o : ℕ) → History f syms stmts owed o → Faultless f syms stmts owed o

@@ -55,7 +55,7 @@ module _ (xs ys : List ℕ) (x : ℕ)
 module _ (db : Database) (p : ℕ) (facts : StatementFacts db p (statement_of db p)) (done rest : List ℕ) (h : ℕ)
     (split : (statement_of db p).hyps ≡ done ++ (h ∷ rest)) where
   ordered : (i j : ℕ) → i < j → j < length (done ++ (h ∷ rest)) → get_or (done ++ (h ∷ rest)) i 0 < get_or (done ++ (h ∷ rest)) j 0
-  ordered = rw split at facts.hyps-rise
+  ordered = rw split at facts.hyps_rise
 
   listed : h ∈ (statement_of db p).hyps
   listed = rw split (Memᴰ.append_right done (Memᴰ.head refl))
@@ -64,7 +64,7 @@ module _ (db : Database) (p : ℕ) (facts : StatementFacts db p (statement_of db
   pub essential-ready : (statement_of db h).kind ≡ 3 → (v : ℕ) → v ∈ (statement_of db h).symbols → Variable db v
       → (g : ℕ) × (g ∈ done) × Floats db v g
   essential-ready k v m var =
-      let w = facts.essential-given h listed k v m var in
+      let w = facts.essential_given h listed k v m var in
       (w.by, below-before done rest h ordered w.by (rw split at w.listed) w.before, w.floats)
 
   -- at a $f no $f of its variable is done

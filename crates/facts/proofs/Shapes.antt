@@ -49,9 +49,9 @@ module _ (f : List ℕ) (o : ℕ) where
   float-two k = symbols-count ∙ sym (pick_first (listed_count f o) (equal-yes k) refl)
 
   -- every statement has one
-  pub symbols-some : WellFormed f o → 2 ≤ kind_at f o → kind_at f o ≤ 5 → 1 ≤ length (symbols_at f o)
+  pub symbols_some : WellFormed f o → 2 ≤ kind_at f o → kind_at f o ≤ 5 → 1 ≤ length (symbols_at f o)
   unfolding symbol_count no_symbols
-  symbols-some w low high =
+  symbols_some w low high =
       rw symbols-count
       (pick-cases (λ n. 1 ≤ n) (equal (kind_at f o) 2) 2 (listed_count f o) (λ e. omega arith)
       (λ e.

@@ -40,7 +40,7 @@ unfolding name_byte
 name-byte b e =
     let h = both_true _ _ e in
     let g = both_true _ _ h.0 in
-    record { low = at_most-true _ _ g.0; high = at_most-true _ _ g.1; not-dollar = equal-false _ _ (no_true _ h.1) }
+    record { low = at_most-true _ _ g.0; high = at_most-true _ _ g.1; not_dollar = equal-false _ _ (no_true _ h.1) }
 
 pub label-byte : (b : ℕ) → label_byte b ≡ true → LabelByte b
 unfolding label_byte

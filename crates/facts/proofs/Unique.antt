@@ -20,7 +20,7 @@ use Rattle.facts.proofs.Decoded.{symbols-length, statements-length}
 pub checked-unique : (f syms stmts a a' b b' : List ℕ) (v w : Verdict) → Checked f syms stmts a b v → Checked f syms stmts a' b' w
     → (v ≡ w) × (a ≡ a') × (b ≡ b')
 checked-unique f syms stmts a a' b b' v w x y =
-    (x.answers ∙ sym y.answers, x.symbols-laid ∙ sym y.symbols-laid, x.statements-laid ∙ sym y.statements-laid)
+    (x.answers ∙ sym y.answers, x.symbols_laid ∙ sym y.symbols_laid, x.statements_laid ∙ sym y.statements_laid)
 
 -- the verdict refuses the file, at a place of it
 pub record RefusedAt (f : List ℕ) (v : Verdict) : Type 0 where

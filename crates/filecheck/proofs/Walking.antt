@@ -27,13 +27,13 @@ use Rattle.frames.proofs.Tables.{laid-front, laid-length, laid-pick, count-pick,
 pub record Walking (f syms stmts syms' stmts' : List ℕ) (st : Walk) : Type 0 where
   pub ix : Index
   pub fuel : ℕ
-  pub symbols-are : st.symbols ≡ length ix.symbols
-  pub statements-are : st.statements ≡ length ix.statements
-  pub owed-is : st.owed ≡ ix.owed
-  pub few-symbols : length ix.symbols ≤ 4096
-  pub few-statements : length ix.statements ≤ 4096
-  pub symbols-laid : syms' ≡ laid ix.symbols syms
-  pub statements-laid : stmts' ≡ laid ix.statements stmts
+  pub symbols_are : st.symbols ≡ length ix.symbols
+  pub statements_are : st.statements ≡ length ix.statements
+  pub owed_is : st.owed ≡ ix.owed
+  pub few_symbols : length ix.symbols ≤ 4096
+  pub few_statements : length ix.statements ≤ 4096
+  pub symbols_laid : syms' ≡ laid ix.symbols syms
+  pub statements_laid : stmts' ≡ laid ix.statements stmts
   pub inside : st.at ≤ length f
   pub enough : length f ≤ fuel + st.at
   pub is : walk (suc fuel) f ix st.at ≡ outcome f
@@ -50,13 +50,13 @@ walking-none f syms stmts h =
     record {
       ix = nothing;
       fuel = length f;
-      symbols-are = refl;
-      statements-are = refl;
-      owed-is = refl;
-      few-symbols = omega arith;
-      few-statements = omega arith;
-      symbols-laid = refl;
-      statements-laid = refl;
+      symbols_are = refl;
+      statements_are = refl;
+      owed_is = refl;
+      few_symbols = omega arith;
+      few_statements = omega arith;
+      symbols_laid = refl;
+      statements_laid = refl;
       inside = omega arith;
       enough = omega arith;
       is = outcome-walk f h;
@@ -80,21 +80,21 @@ lower (suc k) len at next a b c = (k, refl, omega arith)
 module _ (f syms stmts syms' stmts' : List ℕ) (st : Walk) (w : Walking f syms stmts syms' stmts' st) where
   -- the part of each table that is in use
   pub symbols-front : take st.symbols syms' ≡ w.ix.symbols
-  symbols-front = rw (w.symbols-are, w.symbols-laid) (laid-front w.ix.symbols syms)
+  symbols-front = rw (w.symbols_are, w.symbols_laid) (laid-front w.ix.symbols syms)
 
   pub statements-front : take st.statements stmts' ≡ w.ix.statements
-  statements-front = rw (w.statements-are, w.statements-laid) (laid-front w.ix.statements stmts)
+  statements-front = rw (w.statements_are, w.statements_laid) (laid-front w.ix.statements stmts)
 
   pub symbols-length : 4096 ≤ length syms → length syms' ≡ length syms
-  symbols-length h = let k = w.few-symbols in ap length w.symbols-laid ∙ laid-length w.ix.symbols syms (omega arith)
+  symbols-length h = let k = w.few_symbols in ap length w.symbols_laid ∙ laid-length w.ix.symbols syms (omega arith)
 
   pub statements-length : 4096 ≤ length stmts → length stmts' ≡ length stmts
-  statements-length h = let k = w.few-statements in ap length w.statements-laid ∙ laid-length w.ix.statements stmts (omega arith)
+  statements-length h = let k = w.few_statements in ap length w.statements_laid ∙ laid-length w.ix.statements stmts (omega arith)
 
   -- what is wrong with the record here, by the tables and by the index
   pub fault-here : {x : Fault} → x ≡ fault_at f (take st.symbols syms') (take st.statements stmts') st.owed st.at
       → x ≡ fault_at f w.ix.symbols w.ix.statements w.ix.owed st.at
-  fault-here e = rw (symbols-front, statements-front, w.owed-is) at e
+  fault-here e = rw (symbols-front, statements-front, w.owed_is) at e
 
   -- the outcome is settled where the walk is
   settled : (v : Verdict) → walk (suc w.fuel) f w.ix st.at ≡ record { verdict = v; index = w.ix } → Checked f syms stmts syms' stmts' v
@@ -103,8 +103,8 @@ module _ (f syms stmts syms' stmts' : List ℕ) (st : Walk) (w : Walking f syms 
       let o : outcome f ≡ record { verdict = v; index = w.ix } = sym w.is ∙ e in
       record {
         answers = ap (λ x. x.verdict) (sym o);
-        symbols-laid = w.symbols-laid ∙ ap (λ x. laid x.index.symbols syms) (sym o);
-        statements-laid = w.statements-laid ∙ ap (λ x. laid x.index.statements stmts) (sym o);
+        symbols_laid = w.symbols_laid ∙ ap (λ x. laid x.index.symbols syms) (sym o);
+        statements_laid = w.statements_laid ∙ ap (λ x. laid x.index.statements stmts) (sym o);
       }
 
   pub walking-ends : length f ≤ st.at → (v : Verdict) → v ≡ end_verdict st.owed (length f) st.symbols st.statements
@@ -112,7 +112,7 @@ module _ (f syms stmts syms' stmts' : List ℕ) (st : Walk) (w : Walking f syms 
   unfolding at_end
   walking-ends h v e =
       let g : v ≡ end_verdict w.ix.owed (length f) (length w.ix.symbols) (length w.ix.statements)
-      = rw (w.owed-is, w.symbols-are, w.statements-are) at e in
+      = rw (w.owed_is, w.symbols_are, w.statements_are) at e in
       settled v (sym (walk_end w.fuel f w.ix st.at h) ∙ ap (λ x. record { verdict = x; index = w.ix }) (sym g))
 
   pub walking-stops : st.at < length f → (why : Refusal)
@@ -150,19 +150,19 @@ module _ (f syms stmts syms' stmts' : List ℕ) (st : Walk) (w : Walking f syms 
       record {
         ix = after f w.ix st.at;
         fuel = r.0;
-        symbols-are = a.symbols-counted ∙ rw w.symbols-are (count-pick (equal (kind_at f st.at) 1) w.ix.symbols st.at);
-        statements-are =
-            a.statements-counted ∙ rw w.statements-are (count-pick (is_statement (kind_at f st.at)) w.ix.statements st.at);
-        owed-is = a.owed-now;
-        few-symbols = few-pick (equal (kind_at f st.at) 1) w.ix.symbols st.at room_s w.few-symbols;
-        few-statements = few-pick (is_statement (kind_at f st.at)) w.ix.statements st.at room_t w.few-statements;
-        symbols-laid =
-            a.symbols-laid
-            ∙ rw (w.symbols-are, w.symbols-laid)
+        symbols_are = a.symbols_counted ∙ rw w.symbols_are (count-pick (equal (kind_at f st.at) 1) w.ix.symbols st.at);
+        statements_are =
+            a.statements_counted ∙ rw w.statements_are (count-pick (is_statement (kind_at f st.at)) w.ix.statements st.at);
+        owed_is = a.owed_now;
+        few_symbols = few-pick (equal (kind_at f st.at) 1) w.ix.symbols st.at room_s w.few_symbols;
+        few_statements = few-pick (is_statement (kind_at f st.at)) w.ix.statements st.at room_t w.few_statements;
+        symbols_laid =
+            a.symbols_laid
+            ∙ rw (w.symbols_are, w.symbols_laid)
             (laid-pick (equal (kind_at f st.at) 1) w.ix.symbols syms st.at (λ b. let l = room_s b in omega arith));
-        statements-laid =
-            a.statements-laid
-            ∙ rw (w.statements-are, w.statements-laid)
+        statements_laid =
+            a.statements_laid
+            ∙ rw (w.statements_are, w.statements_laid)
             (laid-pick (is_statement (kind_at f st.at)) w.ix.statements stmts st.at (λ b. let l = room_t b in omega arith));
         inside = rw a.at_next next;
         enough = rw a.at_next r.2;
@@ -181,6 +181,6 @@ too_long f syms stmts h =
     let o : refusal TooMany 0 nothing ≡ outcome f = pick_first _ (below-yes h) refl in
     record {
       answers = ap (λ x. x.verdict) o;
-      symbols-laid = ap (λ x. laid x.index.symbols syms) o;
-      statements-laid = ap (λ x. laid x.index.statements stmts) o;
+      symbols_laid = ap (λ x. laid x.index.symbols syms) o;
+      statements_laid = ap (λ x. laid x.index.statements stmts) o;
     }

@@ -106,11 +106,11 @@ module _ {f syms : List ℕ} {at : ℕ} {stack pool : List ℕ} {c : Counts} {mo
   pub closes-end : {answer : Ended} {lowest : ℕ} → lowest ≡ get_or stack 5 0 → ChecksMode mode ended.Accepted → ChecksEnd f syms at stack pool c answer
       → Closes f syms at stack pool c mode place steps (answer_of answer place steps lowest c.nodes)
   unfolding machine.finish
-  closes-end {answer} {lowest} word-is checks end =
+  closes-end {answer} {lowest} word_is checks end =
       record {
         tells = λ e t m file-is stack_is pool-is filed loc n s.
             let judged = end.follows e.statements (bench_of e) (lent_of t) m file-is stack_is pool-is filed loc s in
-            rw (checks.passes refl (machine.only_entry (expression_of (database f) e.asked) m.stack)) (end-as place m s.nodes-few (held e t m file-is stack_is s) judged n n);
+            rw (checks.passes refl (machine.only_entry (expression_of (database f) e.asked) m.stack)) (end-as place m s.nodes_few (held e t m file-is stack_is s) judged n n);
       }
     where
       held : (e : Env) (t : Tables) (m : Memory) → e.file ≡ f → t.stack ≡ stack → Shown (bench_of e) (lent_of t) c m → (x : Proved)
@@ -120,7 +120,7 @@ module _ {f syms : List ℕ} {at : ℕ} {stack pool : List ℕ} {c : Counts} {mo
           record {
             kept = d.kept;
             recorded = rw (← file-is) d.recorded;
-            denotes = rw (word-is, ← stack_is, ← file-is) (only-denotes m.stack (expression_of (database f) e.asked) x d.on_stack is);
+            denotes = rw (word_is, ← stack_is, ← file-is) (only-denotes m.stack (expression_of (database f) e.asked) x d.on_stack is);
           }
 
 -- what is told of a state is told of the same state

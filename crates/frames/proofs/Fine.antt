@@ -20,13 +20,13 @@ use Rattle.frames.proofs.Tells.{one_of-false, both_false}
 
 -- every row of the table fails at the record at `o`
 pub record Faultless (f syms stmts : List ℕ) (owed : Bool) (o : ℕ) : Type 0 where
-  pub record-row : bad_record f o ≡ false
-  pub limit-row : too_many f syms stmts o ≡ false
-  pub symbol-row : bad_symbol f syms o ≡ false
-  pub label-row : bad_label f stmts o ≡ false
-  pub reference-row : bad_reference f syms stmts o ≡ false
+  pub record_row : bad_record f o ≡ false
+  pub limit_row : too_many f syms stmts o ≡ false
+  pub symbol_row : bad_symbol f syms o ≡ false
+  pub label_row : bad_label f stmts o ≡ false
+  pub reference_row : bad_reference f syms stmts o ≡ false
   pub frame_row : bad_frame f syms stmts o ≡ false
-  pub proof-row : no_proof f owed o ≡ false
+  pub proof_row : no_proof f owed o ≡ false
 
 -- a chain that ends in `Fine` passed this test
 unless-fine : (t : Bool) (why : Refusal) (rest : Fault) → unless t why rest ≡ Fine → (t ≡ false) × (rest ≡ Fine)
@@ -45,13 +45,13 @@ fault-fine f syms stmts owed o e =
     let r6 = unless-fine (bad_frame f syms stmts o) BadFrame _ r5.1 in
     let r7 = unless-fine (no_proof f owed o) NoProof _ r6.1 in
     record {
-      record-row = r1.0;
-      limit-row = r2.0;
-      symbol-row = r3.0;
-      label-row = r4.0;
-      reference-row = r5.0;
+      record_row = r1.0;
+      limit_row = r2.0;
+      symbol_row = r3.0;
+      label_row = r4.0;
+      reference_row = r5.0;
       frame_row = r6.0;
-      proof-row = r7.0;
+      proof_row = r7.0;
     }
 
 -- row 1, test by test
@@ -87,8 +87,8 @@ record-well-formed f o e =
 
 -- row 2, test by test
 pub record WithinLimits (f syms stmts : List ℕ) (o : ℕ) : Type 0 where
-  pub symbol-room : kind_at f o ≡ 1 → length syms < 4096
-  pub statement-room : is_statement (kind_at f o) ≡ true → length stmts < 4096
+  pub symbol_room : kind_at f o ≡ 1 → length syms < 4096
+  pub statement_room : is_statement (kind_at f o) ≡ true → length stmts < 4096
   pub hyps : hyp_count f o ≤ 64
   pub pairs : pair_count f o ≤ 512
   pub listed : listed_count f o ≤ 1024
@@ -104,8 +104,8 @@ limits-kept f syms stmts o e =
     let t5 = one_of-false (below 1024 (listed_count f o)) _ t4.1 in
     let t6 = one_of-false (both (equal (kind_at f o) 6) (below 65536 (rest_size f o))) _ t5.1 in
     record {
-      symbol-room = λ k. at_most-false _ _ (both_false _ _ t1.0 (equal-yes k));
-      statement-room = λ k. at_most-false _ _ (both_false _ _ t2.0 k);
+      symbol_room = λ k. at_most-false _ _ (both_false _ _ t1.0 (equal-yes k));
+      statement_room = λ k. at_most-false _ _ (both_false _ _ t2.0 k);
       hyps = below_false _ _ t3.0;
       pairs = below_false _ _ t4.0;
       listed = below_false _ _ t5.0;
@@ -115,17 +115,17 @@ limits-kept f syms stmts o e =
 module _ (f syms stmts : List ℕ) (owed : Bool) (o : ℕ) (fine : fault_at f syms stmts owed o ≡ Fine) where
   -- the record ends within the file
   pub fine-next : next_at f o ≤ length f
-  fine-next = (record-well-formed f o (fault-fine f syms stmts owed o fine).record-row).within
+  fine-next = (record-well-formed f o (fault-fine f syms stmts owed o fine).record_row).within
 
   -- the next record begins at least 6 bytes on
   pub fine-moves : o + 6 ≤ next_at f o
   unfolding next_at
-  fine-moves = let w = (record-well-formed f o (fault-fine f syms stmts owed o fine).record-row).long in omega arith
+  fine-moves = let w = (record-well-formed f o (fault-fine f syms stmts owed o fine).record_row).long in omega arith
 
   -- there is room for one more symbol
   pub fine-symbol-room : kind_at f o ≡ 1 → length syms < 4096
-  fine-symbol-room = (limits-kept f syms stmts o (fault-fine f syms stmts owed o fine).limit-row).symbol-room
+  fine-symbol-room = (limits-kept f syms stmts o (fault-fine f syms stmts owed o fine).limit_row).symbol_room
 
   -- there is room for one more statement
   pub fine-statement-room : is_statement (kind_at f o) ≡ true → length stmts < 4096
-  fine-statement-room = (limits-kept f syms stmts o (fault-fine f syms stmts owed o fine).limit-row).statement-room
+  fine-statement-room = (limits-kept f syms stmts o (fault-fine f syms stmts owed o fine).limit_row).statement_room

@@ -30,12 +30,12 @@ module _ (f : List ℕ) (o : ℕ) where
   assertion-from kind = rw (kind, asserts-size (kind_at f o) kind) (omega arith)
 
   -- the two symbols of a $f
-  float-symbols : kind_at f o ≡ 2 → symbols_at f o ≡ u16 f (o + 10) ∷ u16 f (o + 10 + 2) ∷ []
+  float_symbols : kind_at f o ≡ 2 → symbols_at f o ≡ u16 f (o + 10) ∷ u16 f (o + 10 + 2) ∷ []
   unfolding symbols_at symbol_count symbols_from equal pick rows
-  float-symbols kind = rw kind refl
+  float_symbols kind = rw kind refl
 
   pub float-first : {n : ℕ} → kind_at f o ≡ 2 → n ≡ u16 f (o + 10) → n ≡ get_or (symbols_at f o) 0 0
-  float-first kind e = rw (float-symbols kind) e
+  float-first kind e = rw (float_symbols kind) e
 
   pub float-second : {n : ℕ} → kind_at f o ≡ 2 → n ≡ u16 f (o + 12) → n ≡ get_or (symbols_at f o) 1 0
-  float-second kind e = let here : o + 12 ≡ o + 10 + 2 = omega arith in rw (float-symbols kind) (e ∙ ap (u16 f) here)
+  float-second kind e = let here : o + 12 ≡ o + 10 + 2 = omega arith in rw (float_symbols kind) (e ∙ ap (u16 f) here)

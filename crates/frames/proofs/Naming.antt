@@ -12,10 +12,10 @@ module _ (f : List ℕ) (o : ℕ) (kind : kind_at f o ≡ 1) where
   unfolding rest_from listed_from pairs_from lists_from hyp_count pair_count listed_count lists_symbols asserts either equal pick fixed_size
   name-from = rw kind (omega arith)
 
-  name-size : rest_size f o ≡ length_at f o - 3
+  name_size : rest_size f o ≡ length_at f o - 3
   unfolding rest_size next_at
-  name-size = let from = name-from in omega arith
+  name_size = let from = name-from in omega arith
 
   pub name-is : (from size : ℕ) → from ≡ o + 7 → size ≡ length_at f o - 3 → take size (drop from f) ≡ rest_at f o
   unfolding rest_at
-  name-is from size a b = rw (a, b, name-from, name-size) refl
+  name-is from size a b = rw (a, b, name-from, name_size) refl

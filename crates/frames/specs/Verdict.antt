@@ -110,5 +110,5 @@ laid offsets table = offsets ++ drop (length offsets) table
 -- lent them, and that call clears them
 pub record Checked (f syms stmts syms' stmts' : List ℕ) (answer : Verdict) : Type 0 where
   pub answers : answer ≡ verdict f
-  pub symbols-laid : syms' ≡ laid (index f).symbols syms
-  pub statements-laid : stmts' ≡ laid (index f).statements stmts
+  pub symbols_laid : syms' ≡ laid (index f).symbols syms
+  pub statements_laid : stmts' ≡ laid (index f).statements stmts

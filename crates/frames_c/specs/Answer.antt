@@ -12,5 +12,5 @@ answer_of (Refused why place) = number_of why ∷ place ∷ 0 ∷ []
 -- the three numbers are those of the file's verdict, and the tables are as the file check leaves them
 pub record Answered (f syms stmts syms' stmts' answer : List ℕ) : Type 0 where
   pub answers : answer ≡ answer_of (verdict f)
-  pub symbols-laid : syms' ≡ laid (index f).symbols syms
-  pub statements-laid : stmts' ≡ laid (index f).statements stmts
+  pub symbols_laid : syms' ≡ laid (index f).symbols syms
+  pub statements_laid : stmts' ≡ laid (index f).statements stmts

@@ -13,7 +13,7 @@ use Rattle.frames.specs.Verdict.{laid}
 use Rattle.frames.proofs.Chains.{below-yes, below-no, below_true, below_false}
 use Rattle.machine.specs.Answer.{Answer, accepted, number}
 use Rattle.machine.specs.Bench.{ended}
-use Rattle.machine.specs.Promise.{Counted, all-steps}
+use Rattle.machine.specs.Promise.{Counted, all_steps}
 use Rattle.machine.specs.Run.{State}
 use Rattle.machine.proofs.Numbers.{refusal-number}
 use Rattle.run_bytes.specs.declared.Stopped.{Stopped}
@@ -56,7 +56,7 @@ module _ (f entries : List ℕ) (lent : ℕ) (output : List ℕ) where
   refused-long told = record { says = λ L s good tells counted few size. refused_says tells (told.says f entries s tells) }
 
 counted-steps : {L place steps consumed : ℕ} {tree : Tree} → Counted L (accepted place steps consumed tree) → L ≤ 65536 → (steps ≡ suc consumed) × (steps ≤ 65536)
-counted-steps (all-steps e l) few = (e, omega arith)
+counted-steps (all_steps e l) few = (e, omega arith)
 
 module _ (f entries : List ℕ) (lent at done word nodes : ℕ) (output : List ℕ) where
   full-says : {s : State} → Tells f entries s (Accepted at done word nodes) → below lent (entries_for done) ≡ true

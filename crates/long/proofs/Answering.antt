@@ -21,7 +21,7 @@ use Rattle.findings.specs.Tells.{Tells}
 use Rattle.postorder.specs.LongForm.{long_of, long_answer}
 use Rattle.told.specs.declared.Told.{Told}
 use Rattle.told.specs.Says.{Says}
-use Rattle.proving.proofs.Asking.{beyond-says, other-says, text-few, proof-run}
+use Rattle.proving.proofs.Asking.{beyond-says, other-says, text_few, proof-run}
 use Rattle.bench.proofs.Checking.{good-is}
 use Rattle.bench.proofs.Checking as checking
 use Rattle.long.specs.Calls.{SaysLong}
@@ -55,7 +55,7 @@ module _ (lent : ℕ) (output : List ℕ) {f syms stmts : List ℕ} (w : Filed f
         → SaysLong (long_of (database f) lent (length output) (answer_good (database f) p room)) output output' t
     proof-long {text} has e five entries output' tells size long =
         long_same (database f) lent (length output) (proof-run w p there is has e five room)
-        (long.says (length text) _ w.good tells (run-counted (database f) p (limited room) text) (text-few w p there is has e five) size)
+        (long.says (length text) _ w.good tells (run-counted (database f) p (limited room) text) (text_few w p there is has e five) size)
 
 module _ (lent : ℕ) (output : List ℕ) {f syms stmts syms' stmts' : List ℕ} {v : Verdict} (ch : Checked f syms stmts syms' stmts' v) (p : ℕ) (room : Room) where
   -- a good file

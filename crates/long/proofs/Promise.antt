@@ -16,7 +16,7 @@ use Rattle.machine.specs.Memory.{Room}
 use Rattle.machine.specs.Promise.{Proves}
 use Rattle.postorder.specs.LongForm.{long_text, fits, most_bytes, LongAnswer, nothing_written, written, entries_for, long_of, long_answer, with_proof}
 use Rattle.postorder.specs.SameBut.{SameBut}
-use Rattle.postorder.proofs.Comes.{pool-full, stack-full}
+use Rattle.postorder.proofs.Comes.{pool_full, stack_full}
 use Rattle.postorder.proofs.Again.{Again, again, lacking}
 use Rattle.postorder.proofs.Answers.{zero-written}
 use Rattle.postorder.proofs.LongForms.{Enough, AcceptedWith, demand-three}
@@ -68,10 +68,10 @@ long f p l = long_answer f p (room_in l.pool l.stack l.places) (length l.tree) (
 pub one-long-outcome : (f : List ℕ) (p : ℕ) (l : LongLent) (x y : LongOutcome) → Kept f p l x → Kept f p l y → x ≡ y
 one-long-outcome f p l x y v w =
     let t = one-long-told v.says w.says in
-    let a : x.pool ≡ y.pool = v.zeroed.pool-zero ∙ sym w.zeroed.pool-zero in
-    let b : x.stack ≡ y.stack = v.zeroed.stack-zero ∙ sym w.zeroed.stack-zero in
-    let c : x.places ≡ y.places = v.zeroed.places-zero ∙ sym w.zeroed.places-zero in
-    let d : x.tree ≡ y.tree = v.tree-zero ∙ sym w.tree-zero in
+    let a : x.pool ≡ y.pool = v.zeroed.pool_zero ∙ sym w.zeroed.pool_zero in
+    let b : x.stack ≡ y.stack = v.zeroed.stack_zero ∙ sym w.zeroed.stack_zero in
+    let c : x.places ≡ y.places = v.zeroed.places_zero ∙ sym w.zeroed.places_zero in
+    let d : x.tree ≡ y.tree = v.tree_zero ∙ sym w.tree_zero in
     let e : x.output ≡ y.output = v.says.written ∙ sym w.says.written in
     let whole : outcome x.told x.pool x.stack x.places x.tree x.output ≡ outcome y.told y.pool y.stack y.places y.tree y.output = cc in
     whole
@@ -118,7 +118,7 @@ zero-place : (f : List ℕ) (p : ℕ) (room : Room) (entries output : ℕ) → (
 unfolding long_answer
 zero-place f p room entries output z =
     let w = zero-written (database f) entries output (answer f p room) z in
-    w.length-is ∙ sym (ap length w.text)
+    w.length_is ∙ sym (ap length w.text)
 
 module _ (f : List ℕ) (p : ℕ) (l : LongLent) (x : LongOutcome) (kept : Kept f p l x) (zero : x.told.number ≡ 0) where
   zero_number : (long f p l).number ≡ 0
@@ -135,14 +135,14 @@ module _ (f : List ℕ) (p : ℕ) (l : LongLent) (x : LongOutcome) (kept : Kept 
 -- is accepted for the same claim with the same derivation, or lacks room; and the second call writes the same text again, or says that room is lacking
 pub record SameLongForm (f : List ℕ) (p : ℕ) (text : List ℕ) (first second : Answer) (again : LongOutcome) : Type 0 where
   pub derivation : Tree
-  pub text-is : text ≡ long_text (database f) derivation
+  pub text_is : text ≡ long_text (database f) derivation
   pub proves : Proves (database f) p derivation
   pub accepts : AcceptedWith derivation first
   pub good : GoodFile (with_proof f p text)
   pub same : SameBut (database f) (database (with_proof f p text)) p text
-  pub accepts-again : Again derivation second
+  pub accepts_again : Again derivation second
   pub number : Enough again.told.number
-  pub text-again : again.told.number ≡ 0 → text_read again ≡ text
+  pub text_again : again.told.number ≡ 0 → text_read again ≡ text
 
 pub long-form-again : (f : List ℕ) (p : ℕ) (l l' : LongLent) (x y : LongOutcome) → Kept f p l x → x.told.number ≡ 0 → length (with_proof f p (text_read x)) ≤ 1048576
     → Kept (with_proof f p (text_read x)) p l' y
@@ -153,27 +153,27 @@ long-form-again f p l l' x y v zero whole w =
     (length l'.tree) (length l'.output) (text_read x) (zero_number f p l x v zero) (sym (text-read f p l x v zero)) whole in
     record {
       derivation = d.derivation;
-      text-is = d.text-is;
+      text_is = d.text_is;
       proves = d.proves;
       accepts = d.accepts;
       good = d.good;
       same = d.same;
-      accepts-again = d.accepts-again;
+      accepts_again = d.accepts_again;
       number = rw w.says.number d.number;
-      text-again = λ z. text-read (with_proof f p (text_read x)) p l' y w z ∙ d.text-again (sym w.says.number ∙ z);
+      text_again = λ z. text-read (with_proof f p (text_read x)) p l' y w z ∙ d.text_again (sym w.says.number ∙ z);
     }
 
 -- accepted, or room is lacking: 43, 45
 pub data Holds : ℕ → Type 0 where
   holds : Holds 0
-  no-pool : Holds 43
+  no_pool : Holds 43
   no_stack : Holds 45
 
 again-number : {tree : Tree} {a : Answer} → Again tree a → Holds (number a)
 unfolding number refusal_number
 again-number again = holds
-again-number (lacking pool-full) = no-pool
-again-number (lacking stack-full) = no_stack
+again-number (lacking pool_full) = no_pool
+again-number (lacking stack_full) = no_stack
 
 -- and the call for one statement accepts the written text in the old proof's place, or says that room is lacking
 pub verified-again : (f : List ℕ) (p : ℕ) (l : LongLent) (x : LongOutcome) (pool stack places pool' stack' places' : List ℕ) (t : Told) → Kept f p l x
@@ -182,4 +182,4 @@ pub verified-again : (f : List ℕ) (p : ℕ) (l : LongLent) (x : LongOutcome) (
 verified-again f p l x pool stack places pool' stack' places' t v zero whole w =
     let d = demand-three f p (room_in l.pool l.stack l.places) (room_in pool stack places) (length l.tree) (length l.output) 0 0 (text_read x)
     (zero_number f p l x v zero) (sym (text-read f p l x v zero)) whole in
-    rw w.says.number (again-number d.accepts-again)
+    rw w.says.number (again-number d.accepts_again)

@@ -16,5 +16,5 @@ pub record SaysLong (a : LongAnswer) (output output' : List ℕ) (t : Told) : Ty
 -- the long form of one statement's proof: the answer to file, statement number, room, tree entries and output bytes
 pub record WritesLongForm (f : List ℕ) (p : ℕ) (pool stack places tree output pool' stack' places' tree' output' : List ℕ) (told : Told) : Type 0 where
   pub says : SaysLong (long_answer f p (room_in pool stack places) (length tree) (length output)) output output' told
-  pub tree-zero : tree' ≡ cleared tree
+  pub tree_zero : tree' ≡ cleared tree
   pub zeroed : Zeroed pool stack places pool' stack' places'

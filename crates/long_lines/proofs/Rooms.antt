@@ -18,18 +18,18 @@ use Rattle.reply.proofs.Lengths.{then-few, line-few, label-few}
 use Rattle.long_lines.specs.LongLines.{text_line, refused_label, refusal_line, line_for, long_line, long_line_of}
 
 -- a long form is written only where it has at most 65,536 bytes
-text-few : (db : Database) (entries output : ℕ) (a : Answer) → length (long_of db entries output a).text ≤ 65536
+text_few : (db : Database) (entries output : ℕ) (a : Answer) → length (long_of db entries output a).text ≤ 65536
 unfolding long_of nothing_written written most_bytes pick
-text-few db entries output (accepted at completed consumed tree) = tried (below entries (entries_for completed)) (fits db tree (min output 65536)) refl
+text_few db entries output (accepted at completed consumed tree) = tried (below entries (entries_for completed)) (fits db tree (min output 65536)) refl
   where
     tried : (t u : Bool) → fits db tree (min output 65536) ≡ u
         → length (pick t (nothing_written 60 at completed) (pick u (written completed (long_text db tree)) (nothing_written 61 at completed))).text ≤ 65536
     tried true u e = omega arith
     tried false true e = let m = at_most-true _ _ (sym (fits-exactly db tree (min output 65536)) ∙ e) in omega arith
     tried false false e = omega arith
-text-few db entries output (refused why at completed) = omega arith
-text-few db entries output (turned_away why at) = omega arith
-text-few db entries output not_provable = omega arith
+text_few db entries output (refused why at completed) = omega arith
+text_few db entries output (turned_away why at) = omega arith
+text_few db entries output not_provable = omega arith
 
 text-line-few : (label text : List ℕ) → length label ≤ 64 → length text ≤ 65536 → length (text_line label text) ≤ 65728
 text-line-few label text small few =
@@ -58,4 +58,4 @@ unfolding long_line_of long_line long_answer
 long-line-few f good p =
     let a = long_answer f p greatest 131072 65536 in
     line-for-few (statement_of (database f) p).label a.number a.place a.steps a.text (label-few f good p)
-    (text-few (database f) 131072 65536 (answer f p greatest))
+    (text_few (database f) 131072 65536 (answer f p greatest))

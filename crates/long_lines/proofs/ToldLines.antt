@@ -76,7 +76,7 @@ module _ {a : LongAnswer} (zero : a.number ≡ 0 → a.place ≡ length a.text) 
 -- the long form's answer: where its number is 0, its place is the length of its text
 long-zero : (db : Database) (entries output : ℕ) (x : Answer) → (long_of db entries output x).number ≡ 0
     → (long_of db entries output x).place ≡ length (long_of db entries output x).text
-long-zero db entries output x z = let v = zero-written db entries output x z in v.length-is ∙ sym (ap length v.text)
+long-zero db entries output x z = let v = zero-written db entries output x z in v.length_is ∙ sym (ap length v.text)
 
 pub told-within : (db : Database) (entries output : ℕ) (x : Answer) {text text' : List ℕ} {t : Told} → SaysLong (long_of db entries output x) text text' t
     → Within t text'
@@ -93,10 +93,10 @@ module _ {f syms stmts : List ℕ} (w : Filed f syms stmts) (p : ℕ) where
   good-answer room = rw w.good.is refl
 
   module _ (pool stack places text : List ℕ) (pool-size : length pool ≡ 65536) (stack-size : length stack ≡ 10240) (places-size : length places ≡ 40960)
-      (text-size : length text ≡ 65536) where
+      (text_size : length text ≡ 65536) where
     same_answer : long_of (database f) 131072 (length text) (answer_good (database f) p (room_in pool stack places)) ≡ long_answer f p greatest 131072 65536
     unfolding long_answer
-    same_answer = rw (text-size, room-greatest pool stack places pool-size stack-size places-size, good-answer greatest) refl
+    same_answer = rw (text_size, room-greatest pool stack places pool-size stack-size places-size, good-answer greatest) refl
 
     pub told_line : {text' : List ℕ} {t : Told} {at : ℕ} {label : List ℕ}
         → SaysLong (long_of (database f) 131072 (length text) (answer_good (database f) p (room_in pool stack places))) text text' t

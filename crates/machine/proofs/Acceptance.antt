@@ -26,7 +26,7 @@ use Rattle.machine.specs.Ground.{ground, expression_of}
 use Rattle.machine.specs.Memory.{Room, limited, Proved, Entry, Memory}
 use Rattle.machine.specs.Run.{Mode, beginning, normal, in_roster, in_letters, step_at, is_claim, only_entry, unfinished, first_variables, fresh, run}
 use Rattle.machine.specs.Bench.{ended, answer_good, judged, answer}
-use Rattle.machine.specs.Promise.{Proves, Derived, derived, no_proof, no-file, no-claim}
+use Rattle.machine.specs.Promise.{Proves, Derived, derived, no_proof, no_file, no_claim}
 use Rattle.machine.proofs.Gives.{Gives, gives, stops, unless-gives, bind-gives}
 use Rattle.machine.proofs.Every.{Every, none, also}
 use Rattle.machine.proofs.Bound.{same-expression}
@@ -86,7 +86,7 @@ module _ (db : Database) (p : ℕ) where
           tokens = λ token s. bind-gives (normal-sound db p facts there room _ token s) (ready-runs db p facts there room token.mark);
           locals = λ label s. local-sound room _ label s;
           refuses = λ why n k s. no_proof;
-          refuses-first = λ why. no_proof;
+          refuses_first = λ why. no_proof;
           accepts = accepts;
         }
 
@@ -112,11 +112,11 @@ answer-derived file p room = by-verdict (verdict file) refl
     by_kind : Facts (database file) → (t : Bool) → equal (statement_of (database file) p).kind 5 ≡ t
         → Derived (database file) p (pick t (ended (run (database file) p (limited room) (statement_of (database file) p).text)) not_provable)
     by_kind facts true e = run-derived (database file) p facts (there-is (database file) p (equal-true _ _ e)) (limited room) _
-    by_kind facts false e = no-claim
+    by_kind facts false e = no_claim
 
     by-verdict : (v : Verdict) → verdict file ≡ v → Derived (database file) p (judged v (answer_good (database file) p room))
     by-verdict (Good a b) e = by_kind (good-facts file (good-answer file a b e).0) _ refl
-    by-verdict (Refused why place) e = no-file
+    by-verdict (Refused why place) e = no_file
 
 -- an accepted answer holds a derivation of the claim
 pub accepted-derives : (file : List ℕ) (p : ℕ) (room : Room) {place steps consumed : ℕ} {tree : Tree}

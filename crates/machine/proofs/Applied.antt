@@ -115,7 +115,7 @@ module _ (db : Database) (p : ℕ) where
     substitute-sound m mark a {xs} s before kind held =
         let σ = bound db (statement_of db a).hyps xs in
         let of-a = facts.statement a (omega arith) in
-        hyps-give facts σ (statement_of db a).hyps (λ h n. let act = of-a.hyps-active h n in omega arith) held
+        hyps-give facts σ (statement_of db a).hyps (λ h n. let act = of-a.hyps_active h n in omega arith) held
         (λ h x q f. float-image db a of-a q f)
         (λ derived. unless-gives _ _ (λ t.
         conclude-sound m mark _ _ s

@@ -62,7 +62,7 @@ module _ (db : Database) where
         let parts = both_true _ _ b in
         let there : Floats db (floated (statement_of db g)) g = record { kind = float-kind _ f; variable = refl } in
         let here' : Floats db (floated (statement_of db g)) h = record { kind = float-kind _ parts.0; variable = equal-true _ _ parts.1 } in
-        let later : h < g = after-above done hs h (rw split at facts.hyps-rise) g m in
+        let later : h < g = after-above done hs h (rw split at facts.hyps_rise) g m in
         let same : g ≡ h =
         facts.one_float g h _ (rw split (Memᴰ.append_right done (Memᴰ.tail m)))
         (rw split (Memᴰ.append_right done (Memᴰ.head refl))) there here' in
@@ -102,4 +102,4 @@ module _ (db : Database) (σ : Substitution) (p : ℕ) (facts : StatementFacts d
   unfolding under expression_of expression substituted replaced floated
   float-under f =
       let kind = float-kind _ f in
-      rw (second-alone _ (facts.float-symbols kind), variable-is (facts.float-variable kind)) (append-nil _)
+      rw (second-alone _ (facts.float_symbols kind), variable-is (facts.float_variable kind)) (append-nil _)

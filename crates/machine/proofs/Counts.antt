@@ -23,7 +23,7 @@ use Rattle.machine.specs.Prepare.{Ready, ready, spend, prepare_hypothesis, prepa
 use Rattle.machine.specs.Apply.{check_hyp, check_hyps, conclude, apply_assertion, assign_entries, run_prepared, run_ready}
 use Rattle.machine.specs.Run.{Mode, is_claim, only_entry, unfinished, fresh, run, step_at}
 use Rattle.machine.specs.Bench.{ended, answer_good, judged, answer}
-use Rattle.machine.specs.Promise.{Counted, all-steps, some-steps}
+use Rattle.machine.specs.Promise.{Counted, all_steps, some_steps}
 use Rattle.machine.proofs.Gives.{Gives, gives, stops, unless-gives, bind-gives, pick_gives}
 use Rattle.machine.proofs.Applied.{marks-give}
 use Rattle.machine.proofs.Acceptance.{unfinished-gives}
@@ -159,7 +159,7 @@ entry-counts : (L : ℕ) (m : Memory) (claim : Expression) (es : List Entry) →
     → Gives (λ x. Counted L (accepted L m.steps m.consumed x.tree)) (only_entry claim es)
 unfolding only_entry
 entry-counts L m claim [] b f = stops
-entry-counts L m claim (e ∷ []) b f = claim-counts claim _ (all-steps (omega arith) f)
+entry-counts L m claim (e ∷ []) b f = claim-counts claim _ (all_steps (omega arith) f)
 entry-counts L m claim (e ∷ g ∷ es) b f = stops
 
 accepted-counts : {L : ℕ} {m : Memory} (claim : Expression) (mode : Mode) → Counts L m
@@ -174,12 +174,12 @@ refused-counts : {L n k : ℕ} {m : Memory} (why : Refusal) → n ≤ L → k �
 refused-counts {L} {n} {k} {m} why a b c =
     let f : m.steps ≤ k = c.few in
     let l : m.steps ≤ L = omega arith in
-    some-steps a l
+    some_steps a l
 
 first-counts : (L : ℕ) (why : Refusal) → Counted L (refused why 0 0)
 first-counts L why =
     let l : 0 ≤ L = omega arith in
-    some-steps l l
+    some_steps l l
 
 module _ (db : Database) (p : ℕ) (room : Room) where
   counts-followed : (L : ℕ) → Followed db p room L Counts (Counted L)
@@ -195,7 +195,7 @@ module _ (db : Database) (p : ℕ) (room : Room) where
         tokens = λ token c. bind-gives (normal-counts db p room _ _ token c) (ready-runs-counts db p room _ token.mark);
         locals = λ label c. local-counts db p room _ _ label c;
         refuses = refused-counts;
-        refuses-first = first-counts L;
+        refuses_first = first-counts L;
         accepts = accepted-counts (expression_of db p);
       }
 

@@ -42,7 +42,7 @@ module _ (db : Database) (p : ℕ) (facts : StatementFacts db p (statement_of db
       let parts = both_true _ _ e in
       let a : u ≡ q.0 = equal-true _ _ parts.0 in
       let b : v ≡ q.1 = equal-true _ _ parts.1 in
-      record { differ = λ same. facts.pair-differs q m (sym a ∙ (same ∙ b)); declared = inl (rw (a, b) m) }
+      record { differ = λ same. facts.pair_differs q m (sym a ∙ (same ∙ b)); declared = inl (rw (a, b) m) }
 
   other_way : (u v : ℕ) (q : ℕ × ℕ) → q ∈ (statement_of db p).pairs → both (equal u q.1) (equal v q.0) ≡ true
       → Disjoint (ground db p) u v
@@ -51,7 +51,7 @@ module _ (db : Database) (p : ℕ) (facts : StatementFacts db p (statement_of db
       let parts = both_true _ _ e in
       let a : u ≡ q.1 = equal-true _ _ parts.0 in
       let b : v ≡ q.0 = equal-true _ _ parts.1 in
-      record { differ = λ same. facts.pair-differs q m (sym (sym a ∙ (same ∙ b))); declared = inr (rw (a, b) m) }
+      record { differ = λ same. facts.pair_differs q m (sym (sym a ∙ (same ∙ b))); declared = inr (rw (a, b) m) }
 
   pub disjoint-means : (u v : ℕ) → disjoint (statement_of db p).pairs u v ≡ true → Disjoint (ground db p) u v
   unfolding disjoint is_pair

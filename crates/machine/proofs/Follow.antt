@@ -35,7 +35,7 @@ pub record Followed (db : Database) (p : ℕ) (room : Room) (L : ℕ) (I : ℕ �
       → Gives (I (suc n)) (bind (prepare_normal db p room m token) (run_ready db p room token.mark))
   pub locals : {n : ℕ} {m : Memory} (label : Option (List ℕ)) → I n m → Gives (I n) (give_local room m label)
   pub refuses : {n k : ℕ} {m : Memory} (why : Refusal) → n ≤ L → k ≤ L → I k m → Q (refused why n m.steps)
-  pub refuses-first : (why : Refusal) → Q (refused why 0 0)
+  pub refuses_first : (why : Refusal) → Q (refused why 0 0)
   pub accepts : {m : Memory} (mode : Mode) → I L m
       → Gives (λ x. Q (accepted L m.steps m.consumed x.tree)) (unfinished mode (only_entry (expression_of db p) m.stack))
 
@@ -151,7 +151,7 @@ module _ {db : Database} {p : ℕ} {room : Room} {L : ℕ} {I : ℕ → Memory �
   starts text e =
       settle-stands 0 0
       (unless-gives {P = I 0} _ _ (λ t. unless-gives _ _ (λ t'. gives F.begins)))
-      (λ why. F.refuses-first why)
+      (λ why. F.refuses_first why)
       (λ m i. stands_at m beginning [] 0 (length text) 0 refl (omega arith) i)
 
   over-answers : (s : State) → Stands (λ s'. ⊥) Q s → Q (ended s)

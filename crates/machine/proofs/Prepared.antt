@@ -106,7 +106,7 @@ module _ (db : Database) (p : ℕ) (facts : Facts db) (there : p < length db.sta
         gives (record { memory = spend-sound room m _ _ s; step = recalled (record { derives = supposed h (expression_of db h) may }) })))
 
     listed-supposed : (h : ℕ) → h ∈ (statement_of db p).hyps → MaySuppose db p h (expression_of db h)
-    listed-supposed h m = record { active = (facts.statement p there).hyps-active h m; own = inr m; is = refl }
+    listed-supposed h m = record { active = (facts.statement p there).hyps_active h m; own = inr m; is = refl }
 
     named-supposed : (s : ℕ) → s < p → both (is_float (statement_of db s)) (no (within (statement_of db s).end p)) ≡ false → Nameable db p s
         → ((statement_of db s).kind ≡ 2) ⊎ ((statement_of db s).kind ≡ 3) → MaySuppose db p s (expression_of db s)
@@ -123,7 +123,7 @@ module _ (db : Database) (p : ℕ) (facts : Facts db) (there : p < length db.sta
         let of-s = facts.statement s (omega arith) in
         pick_gives _
         (λ t. hypothesis-sound m s (named-supposed s before scope may (supposes-kind _ t)) sound)
-        (λ t. gives (record { memory = sound; step = earlier before (asserts-kind _ of-s.kind-low of-s.kind-high t) }))))
+        (λ t. gives (record { memory = sound; step = earlier before (asserts-kind _ of-s.kind_low of-s.kind_high t) }))))
 
     ready-sound : (r : Ready) → SoundReady db p r → Gives (Sound db p) (add_ready room r)
     unfolding add_ready

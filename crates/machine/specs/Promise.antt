@@ -16,11 +16,11 @@ Proves db p tree = Derives (ground db p) tree (expression_of db p)
 pub data Derived (db : Database) (p : ℕ) : Answer → Type 0 where
   derived : {place steps consumed : ℕ} {tree : Tree} → Proves db p tree → Derived db p (accepted place steps consumed tree)
   no_proof : {why : Refusal} {place steps : ℕ} → Derived db p (refused why place steps)
-  no-file : {why : Rattle.frames.specs.declared.Refusal.Refusal} {place : ℕ} → Derived db p (turned_away why place)
-  no-claim : Derived db p not_provable
+  no_file : {why : Rattle.frames.specs.declared.Refusal.Refusal} {place : ℕ} → Derived db p (turned_away why place)
+  no_claim : Derived db p not_provable
 
 -- the counts of an answer to a text of L bytes: an acceptance has the text's length as its place, and steps that are 1 + all
 -- hypotheses consumed; no place and no count of steps is above L
 pub data Counted (L : ℕ) : Answer → Type 0 where
-  all-steps : {steps consumed : ℕ} {tree : Tree} → steps ≡ suc consumed → steps ≤ L → Counted L (accepted L steps consumed tree)
-  some-steps : {why : Refusal} {place steps : ℕ} → place ≤ L → steps ≤ L → Counted L (refused why place steps)
+  all_steps : {steps consumed : ℕ} {tree : Tree} → steps ≡ suc consumed → steps ≤ L → Counted L (accepted L steps consumed tree)
+  some_steps : {why : Refusal} {place steps : ℕ} → place ≤ L → steps ≤ L → Counted L (refused why place steps)

@@ -54,9 +54,9 @@ unfolding active_of active before_at standing statement_at
 active-same f syms stmts i h =
     both (below h (length stmts)) (scope-same (supposes (kind_at f (get_or stmts h 0))) (scope_end_at f (get_or stmts h 0)) (length stmts) i)
 
-numbers-same : (f syms stmts : List ℕ) (o : ℕ) → numbers_of (before_at f syms stmts) (statement_at f o) ≡ bad_numbers f syms stmts o
+numbers_same : (f syms stmts : List ℕ) (o : ℕ) → numbers_of (before_at f syms stmts) (statement_at f o) ≡ bad_numbers f syms stmts o
 unfolding numbers_of bad_numbers before_at standing statement_at constant_of constant variable_of variable pair_of variables defined_of defined typecode typecode_at floated variable_at
-numbers-same f syms stmts o = rw (active-same f syms stmts)
+numbers_same f syms stmts o = rw (active-same f syms stmts)
 
 -- row 6
 assertion-same : (f syms stmts : List ℕ) (o : ℕ) → assertion_of (before_at f syms stmts) (statement_at f o) ≡ bad_assertion f syms stmts o
@@ -88,7 +88,7 @@ module _ (f : List ℕ) (ix : Index) (o : ℕ) (h : o ≤ length f) where
         record-moved f o h,
         many-moved f o ix.symbols ix.statements,
         proof-moved f o ix.owed,
-        numbers-same f ix.symbols ix.statements o,
+        numbers_same f ix.symbols ix.statements o,
         assertion-same f ix.symbols ix.statements o,
         names_same f ix.symbols (rest_at f o),
         labels-same f ix.statements (rest_at f o),

@@ -94,11 +94,11 @@ node-more within applied = applied
 module _ {b : Bench} {l : Lent} {c : Counts} {m : Memory} (s : Shown b l c m) where
   -- more of the pool is used, and more variables are numbered
   module _ (ws numbers' pool' : List ℕ) (count' used' : ℕ) (numbered : Numbered numbers' count' (m.variables ++ ws)) (few : count' ≤ 256)
-      (numbers-sized : length numbers' ≡ length l.numbers) (pool-sized : length pool' ≡ length l.pool) (kept : take c.used pool' ≡ take c.used l.pool)
+      (numbers_sized : length numbers' ≡ length l.numbers) (pool_sized : length pool' ≡ length l.pool) (kept : take c.used pool' ≡ take c.used l.pool)
       (grows : c.used ≤ used') (room : used' ≤ b.room.pool) where
     still : {row : Row} {e : Expression} → Means (database b.file) m.variables l.pool c.used row e
         → Means (database b.file) (m.variables ++ ws) pool' used' row e
-    still = let f = s.pool-few in let z = s.pool-sized in means-kept ws pool' used' kept (omega arith) (omega arith) grows
+    still = let f = s.pool_few in let z = s.pool_sized in means-kept ws pool' used' kept (omega arith) (omega arith) grows
 
     place_still : (k : ℕ) (x : Prepared) → PlaceShown (database b.file) b.asked m.variables l.pool c.used l.places k x
         → PlaceShown (database b.file) b.asked (m.variables ++ ws) pool' used' l.places k x
@@ -110,27 +110,27 @@ module _ {b : Bench} {l : Lent} {c : Counts} {m : Memory} (s : Shown b l c m) wh
     shown-grown =
         record {
           numbered = numbered;
-          variables-few = few;
+          variables_few = few;
           begun = record { more = s.begun.more ++ ws; is = ap (λ (xs : List ℕ). xs ++ ws) s.begun.is ∙ append_assoc (first_variables (database b.file) b.asked) s.begun.more ws };
-          mandatory-known = λ v i. Memᴰ.append_left ws (s.mandatory-known v i);
-          numbers-sized = let z = s.numbers-sized in omega arith;
+          mandatory_known = λ v i. Memᴰ.append_left ws (s.mandatory_known v i);
+          numbers_sized = let z = s.numbers_sized in omega arith;
           pool = let e = s.pool in omega arith;
-          pool-few = room;
-          pool-sized = let z = s.pool-sized in omega arith;
+          pool_few = room;
+          pool_sized = let z = s.pool_sized in omega arith;
           stack = down-map (λ k e i p. record { row = p.row; at = p.at; means = still p.means; mark = p.mark }) s.stack;
-          stack-few = s.stack-few;
-          stack-limit = s.stack-limit;
-          stack-sized = s.stack-sized;
+          stack_few = s.stack_few;
+          stack_limit = s.stack_limit;
+          stack_sized = s.stack_sized;
           places = along-map (length m.places) (omega arith) (λ k x i p. place_still k x p) s.places;
           placed = s.placed;
-          places-few = s.places-few;
-          places-limit = s.places-limit;
-          places-sized = s.places-sized;
+          places_few = s.places_few;
+          places_limit = s.places_limit;
+          places_sized = s.places_sized;
           locals = s.locals;
-          locals-few = s.locals-few;
-          locals-sized = s.locals-sized;
-          tree-limit = s.tree-limit;
-          nodes-few = s.nodes-few;
+          locals_few = s.locals_few;
+          locals_sized = s.locals_sized;
+          tree_limit = s.tree_limit;
+          nodes_few = s.nodes_few;
           derivations = s.derivations;
         }
 
@@ -143,34 +143,34 @@ module _ {b : Bench} {l : Lent} {c : Counts} {m : Memory} (s : Shown b l c m) wh
       → Records b.file l.tree c.nodes l.stack c.depth l.places m.stack m.places n h row.node entry.proved.tree
       → Shown b (with_stack l (with_row row k l.stack)) (with_depth (with_nodes c n) (k + 1)) (pushed m h left entry)
   shown-pushed k h n row {left = es} entry below room left left-too four means mark records =
-      let z = s.stack-sized in
-      let y = s.stack-limit in
+      let z = s.stack_sized in
+      let y = s.stack_limit in
       let fits : 10 * k + 10 ≤ length l.stack = omega arith in
       record {
         numbered = s.numbered;
-        variables-few = s.variables-few;
+        variables_few = s.variables_few;
         begun = s.begun;
-        mandatory-known = s.mandatory-known;
-        numbers-sized = s.numbers-sized;
+        mandatory_known = s.mandatory_known;
+        numbers_sized = s.numbers_sized;
         pool = s.pool;
-        pool-few = s.pool-few;
-        pool-sized = s.pool-sized;
+        pool_few = s.pool_few;
+        pool_sized = s.pool_sized;
         stack =
             over refl (record { row = row; at = row_new row k l.stack fits four; means = means; mark = mark })
             (down-map (λ j e i p. record { row = p.row; at = row_kept row k l.stack fits j i p.at; means = p.means; mark = p.mark }) left);
-        stack-few = omega arith;
-        stack-limit = s.stack-limit;
-        stack-sized = rw (with-row-length row k l.stack fits) z;
+        stack_few = omega arith;
+        stack_limit = s.stack_limit;
+        stack_sized = rw (with-row-length row k l.stack fits) z;
         places = s.places;
         placed = s.placed;
-        places-few = s.places-few;
-        places-limit = s.places-limit;
-        places-sized = s.places-sized;
+        places_few = s.places_few;
+        places_limit = s.places_limit;
+        places_sized = s.places_sized;
         locals = s.locals;
-        locals-few = s.locals-few;
-        locals-sized = s.locals-sized;
-        tree-limit = s.tree-limit;
-        nodes-few = let f = records.few in let g = s.nodes-few in omega arith;
+        locals_few = s.locals_few;
+        locals_sized = s.locals_sized;
+        tree_limit = s.tree_limit;
+        nodes_few = let f = records.few in let g = s.nodes_few in omega arith;
         derivations = λ enough. held fits (s.derivations (records.sooner enough)) (records.holds enough (s.derivations (records.sooner enough)));
       }
     where
@@ -184,7 +184,7 @@ module _ {b : Bench} {l : Lent} {c : Counts} {m : Memory} (s : Shown b l c m) wh
             on_stack =
                 over refl (record { row = row; at = row_new row k l.stack fits four; denotes = g.denotes })
                 (down-map (λ j e i p. record { row = p.row; at = row_kept row k l.stack fits j i p.at; denotes = denotes-more g.within p.denotes }) (left-too d.kept d.on_stack));
-            in-places = along-map (length m.places) (omega arith) (λ j x i p. node-more g.within p) d.in-places;
+            in_places = along-map (length m.places) (omega arith) (λ j x i p. node-more g.within p) d.in_places;
           }
 
   -- a row more among the places
@@ -194,34 +194,34 @@ module _ {b : Bench} {l : Lent} {c : Counts} {m : Memory} (s : Shown b l c m) wh
       → NodePlaced b.file d.kept (with_row row c.places l.places) c.places step)
       → Shown b (with_places_table l (with_row row c.places l.places)) (with_places c (c.places + 1)) (placed m step)
   shown-placed row step room shows node-shows =
-      let z = s.places-sized in
-      let y = s.places-limit in
+      let z = s.places_sized in
+      let y = s.places_limit in
       let n = s.placed in
       let fits : 10 * c.places + 10 ≤ length l.places = omega arith in
       record {
         numbered = s.numbered;
-        variables-few = s.variables-few;
+        variables_few = s.variables_few;
         begun = s.begun;
-        mandatory-known = s.mandatory-known;
-        numbers-sized = s.numbers-sized;
+        mandatory_known = s.mandatory_known;
+        numbers_sized = s.numbers_sized;
         pool = s.pool;
-        pool-few = s.pool-few;
-        pool-sized = s.pool-sized;
+        pool_few = s.pool_few;
+        pool_sized = s.pool_sized;
         stack = s.stack;
-        stack-few = s.stack-few;
-        stack-limit = s.stack-limit;
-        stack-sized = s.stack-sized;
+        stack_few = s.stack_few;
+        stack_limit = s.stack_limit;
+        stack_sized = s.stack_sized;
         places =
             along-more c.places (omega arith) (along-map c.places (omega arith) (λ k x i p. kept fits k x i p) s.places) shows;
         placed = rw length-append (omega arith);
-        places-few = omega arith;
-        places-limit = s.places-limit;
-        places-sized = rw (with-row-length row c.places l.places fits) z;
+        places_few = omega arith;
+        places_limit = s.places_limit;
+        places_sized = rw (with-row-length row c.places l.places fits) z;
         locals = s.locals;
-        locals-few = let f = s.locals-few in omega arith;
-        locals-sized = s.locals-sized;
-        tree-limit = s.tree-limit;
-        nodes-few = s.nodes-few;
+        locals_few = let f = s.locals_few in omega arith;
+        locals_sized = s.locals_sized;
+        tree_limit = s.tree_limit;
+        nodes_few = s.nodes_few;
         derivations = λ enough. held fits (s.derivations enough);
       }
     where
@@ -238,8 +238,8 @@ module _ {b : Bench} {l : Lent} {c : Counts} {m : Memory} (s : Shown b l c m) wh
             kept = d.kept;
             recorded = d.recorded;
             on_stack = d.on_stack;
-            in-places =
-                along-more c.places (omega arith) (along-map c.places (omega arith) (λ k x i p. node_kept fits d.kept k x i p) d.in-places) (node-shows d);
+            in_places =
+                along-more c.places (omega arith) (along-map c.places (omega arith) (λ k x i p. node_kept fits d.kept k x i p) d.in_places) (node-shows d);
           }
 
       kept : 10 * c.places + 10 ≤ length l.places → (k : ℕ) (x : Prepared) → k < c.places
@@ -253,30 +253,30 @@ module _ {b : Bench} {l : Lent} {c : Counts} {m : Memory} (s : Shown b l c m) wh
   shown-noted tree' sized same =
       record {
         numbered = s.numbered;
-        variables-few = s.variables-few;
+        variables_few = s.variables_few;
         begun = s.begun;
-        mandatory-known = s.mandatory-known;
-        numbers-sized = s.numbers-sized;
+        mandatory_known = s.mandatory_known;
+        numbers_sized = s.numbers_sized;
         pool = s.pool;
-        pool-few = s.pool-few;
-        pool-sized = s.pool-sized;
+        pool_few = s.pool_few;
+        pool_sized = s.pool_sized;
         stack = s.stack;
-        stack-few = s.stack-few;
-        stack-limit = s.stack-limit;
-        stack-sized = s.stack-sized;
+        stack_few = s.stack_few;
+        stack_limit = s.stack_limit;
+        stack_sized = s.stack_sized;
         places = s.places;
         placed = s.placed;
-        places-few = s.places-few;
-        places-limit = s.places-limit;
-        places-sized = s.places-sized;
+        places_few = s.places_few;
+        places_limit = s.places_limit;
+        places_sized = s.places_sized;
         locals = s.locals;
-        locals-few = s.locals-few;
-        locals-sized = s.locals-sized;
-        tree-limit = rw sized s.tree-limit;
-        nodes-few = s.nodes-few;
+        locals_few = s.locals_few;
+        locals_sized = s.locals_sized;
+        tree_limit = rw sized s.tree_limit;
+        nodes_few = s.nodes_few;
         derivations = λ enough. held (s.derivations (rw (sym sized) enough));
       }
     where
       held : Derivations b.file l.tree c.nodes l.stack c.depth l.places m.stack m.places
           → Derivations b.file tree' c.nodes l.stack c.depth l.places m.stack m.places
-      held d = record { kept = d.kept; recorded = recorded-kept same d.recorded; on_stack = d.on_stack; in-places = d.in-places }
+      held d = record { kept = d.kept; recorded = recorded-kept same d.recorded; on_stack = d.on_stack; in_places = d.in_places }

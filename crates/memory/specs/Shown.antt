@@ -115,7 +115,7 @@ pub record Derivations (f entries : List ℕ) (n : ℕ) (stack : List ℕ) (dept
   pub kept : Applications
   pub recorded : Recorded f entries kept n
   pub on_stack : Down (NodeShown f kept stack) depth es
-  pub in-places : Along (NodePlaced f kept places) 0 prepared
+  pub in_places : Along (NodePlaced f kept places) 0 prepared
 
 -- the first n entries hold what was kept, and the derivation of this word
 pub record Holding (f entries : List ℕ) (n : ℕ) (kept : Applications) (word : ℕ) (tree : Tree) : Type 0 where
@@ -135,27 +135,27 @@ pub record Records (f entries : List ℕ) (used : ℕ) (stack : List ℕ) (depth
 -- the tables and the counts stand for this memory
 pub record Shown (b : Bench) (l : Lent) (c : Counts) (m : Memory) : Type 0 where
   pub numbered : Numbered l.numbers c.count m.variables
-  pub variables-few : c.count ≤ 256
+  pub variables_few : c.count ≤ 256
   pub begun : Extends (first_variables (database b.file) b.asked) m.variables
-  pub mandatory-known : (v : ℕ) → v ∈ mandatory (database b.file) (statement_of (database b.file) b.asked).hyps → v ∈ m.variables
-  pub numbers-sized : length (database b.file).symbols ≤ length l.numbers
+  pub mandatory_known : (v : ℕ) → v ∈ mandatory (database b.file) (statement_of (database b.file) b.asked).hyps → v ∈ m.variables
+  pub numbers_sized : length (database b.file).symbols ≤ length l.numbers
   pub pool : m.pool ≡ c.used
-  pub pool-few : c.used ≤ b.room.pool
-  pub pool-sized : b.room.pool ≤ length l.pool
+  pub pool_few : c.used ≤ b.room.pool
+  pub pool_sized : b.room.pool ≤ length l.pool
   pub stack : Down (EntryShown (database b.file) m.variables l.pool c.used b.text l.stack) c.depth m.stack
-  pub stack-few : c.depth ≤ b.room.stack
-  pub stack-limit : b.room.stack ≤ 1024
-  pub stack-sized : 10 * b.room.stack ≤ length l.stack
+  pub stack_few : c.depth ≤ b.room.stack
+  pub stack_limit : b.room.stack ≤ 1024
+  pub stack_sized : 10 * b.room.stack ≤ length l.stack
   pub places : Along (PlaceShown (database b.file) b.asked m.variables l.pool c.used l.places) 0 m.places
   pub placed : c.places ≡ length m.places
-  pub places-few : c.places ≤ b.room.places
-  pub places-limit : b.room.places ≤ 4096
-  pub places-sized : 10 * b.room.places ≤ length l.places
+  pub places_few : c.places ≤ b.room.places
+  pub places_limit : b.room.places ≤ 4096
+  pub places_sized : 10 * b.room.places ≤ length l.places
   pub locals : m.locals ≡ locals_of b.text l.locals c.locals
-  pub locals-few : c.locals ≤ c.places
-  pub locals-sized : 12288 ≤ length l.locals
-  pub tree-limit : length l.tree ≤ 131072
-  pub nodes-few : c.nodes ≤ m.steps + m.consumed
+  pub locals_few : c.locals ≤ c.places
+  pub locals_sized : 12288 ≤ length l.locals
+  pub tree_limit : length l.tree ≤ 131072
+  pub nodes_few : c.nodes ≤ m.steps + m.consumed
   pub derivations : c.nodes ≤ length l.tree
       → Derivations b.file l.tree c.nodes l.stack c.depth l.places m.stack m.places
 

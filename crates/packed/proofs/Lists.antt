@@ -127,7 +127,7 @@ module _ {f : List ℕ} {a at : ℕ} (loc : Located f a at) where
 
   pub located-defined : GoodFile f → Defined (database f) (expression_of (database f) a).symbols
   unfolding expression_of expression
-  located-defined good = record { defined = λ s m. ((good-facts f good).statement a loc.there).symbols-defined s (later _ m) }
+  located-defined good = record { defined = λ s m. ((good-facts f good).statement a loc.there).symbols_defined s (later _ m) }
 
 -- what is said of bytes is said of lists
 module _ (f syms : List ℕ) (at : ℕ) where

@@ -39,8 +39,8 @@ pub numbers-alike : {db : Database} {vs xs a b : List ℕ} → Numbers db vs xs 
 numbers-alike p q n = p.exactly n ∙ sym (q.exactly n)
 
 -- and where they are of one size, they are the same
-pub numbers-same : {db : Database} {vs xs a b : List ℕ} {bits : ℕ} → Words bits a → Words bits b → Numbers db vs xs a → Numbers db vs xs b → a ≡ b
-numbers-same wa wb p q = same-members wa wb (numbers-alike p q)
+pub numbers_same : {db : Database} {vs xs a b : List ℕ} {bits : ℕ} → Words bits a → Words bits b → Numbers db vs xs a → Numbers db vs xs b → a ≡ b
+numbers_same wa wb p q = same-members wa wb (numbers-alike p q)
 
 module _ (db : Database) (vs f syms sets : List ℕ) (σ : Substitution) where
   -- n is the number of a variable in what becomes of symbol s exactly when it is a member of the set of its image

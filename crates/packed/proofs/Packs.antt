@@ -124,7 +124,7 @@ agree false false f g = refl
 module _ {db : Database} (facts : Facts db) where
   -- every byte of a name is below 128
   pub name-low : (s : ℕ) → s < length db.symbols → (b : ℕ) → b ∈ (symbol_of db s).name → b < 128
-  name-low s d b m = omega (arith, ((facts.symbol s d).name-bytes b m).high)
+  name-low s d b m = omega (arith, ((facts.symbol s d).name_bytes b m).high)
 
   -- of two texts that begin with packed symbols, equal texts have one symbol and equal rests
   pub symbol-apart : (s t : ℕ) (x y : List ℕ) → s < length db.symbols → t < length db.symbols
@@ -132,15 +132,15 @@ module _ {db : Database} (facts : Facts db) where
   unfolding packed_symbol
   symbol-apart s t x y d f e =
       let r =
-      ended-apart _ _ x y (name-low s d) (name-low t f) (facts.symbol s d).name-some (facts.symbol t f).name-some e in
-      (facts.names-differ s t d f r.0, r.1)
+      ended-apart _ _ x y (name-low s d) (name-low t f) (facts.symbol s d).name_some (facts.symbol t f).name_some e in
+      (facts.names_differ s t d f r.0, r.1)
 
   -- an expression with a symbol is not packed to nothing
   symbol-some : (s : ℕ) (ss : List ℕ) → s < length db.symbols → packed db (s ∷ ss) ≡ [] → ⊥
   unfolding packed packed_symbol
   symbol-some s ss d e =
       let l = simp (length-append, ended-length) at (ap length e) in
-      omega (arith, (facts.symbol s d).name-some)
+      omega (arith, (facts.symbol s d).name_some)
 
   -- expressions of defined symbols that are packed alike are the same
   pub pack-injective : (xs ys : List ℕ) → ((s : ℕ) → s ∈ xs → s < length db.symbols)

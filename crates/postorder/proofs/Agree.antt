@@ -88,7 +88,7 @@ module _ (db : Database) (τ : Substitution) where
         → bound db (statement_of db a).hyps xs (floated (statement_of db h)) ≡ τ (floated (statement_of db h))
     float_same h m f =
         let o = entry_of matched h m in
-        let l = ((facts.statement a before).hyps-active h m).earlier in
+        let l = ((facts.statement a before).hyps_active h m).earlier in
         float-image db a (facts.statement a before) o.paired f
         ∙ (ap (λ (e : Expression). e.symbols) o.is ∙ float-under db τ h (facts.statement h (omega arith)) f)
 
@@ -97,21 +97,21 @@ module _ (db : Database) (τ : Substitution) where
 
     is-variable : (s v : ℕ) → s < length db.statements → v ∈ (statement_of db s).symbols → is_variable db v ≡ true → Variable db v
     unfolding is_variable
-    is-variable s v l m e = record { defined = (facts.statement s l).symbols-defined v m; class = equal-true _ _ e }
+    is-variable s v l m e = record { defined = (facts.statement s l).symbols_defined v m; class = equal-true _ _ e }
 
     -- so the claim becomes the same, and so does each listed $e
     pub claim-same : 4 ≤ (statement_of db a).kind
         → under (is_variable db) (bound db (statement_of db a).hyps xs) (expression_of db a) ≡ under (is_variable db) τ (expression_of db a)
     claim-same k =
-        statement-same db _ τ a (λ v m e. given-same ((facts.statement a before).claim-given k v m (is-variable a v before m e)))
+        statement-same db _ τ a (λ v m e. given-same ((facts.statement a before).claim_given k v m (is-variable a v before m e)))
 
     pub essential-same : (h : ℕ) → h ∈ (statement_of db a).hyps → is_float (statement_of db h) ≡ false
         → under (is_variable db) (bound db (statement_of db a).hyps xs) (expression_of db h) ≡ under (is_variable db) τ (expression_of db h)
     essential-same h m f =
-        let act = (facts.statement a before).hyps-active h m in
+        let act = (facts.statement a before).hyps_active h m in
         let l = act.earlier in
         statement-same db _ τ h (λ v n e. given-same
-        ((facts.statement a before).essential-given h m (kind-of act.kind) v n (is-variable h v (omega arith) n e)))
+        ((facts.statement a before).essential_given h m (kind-of act.kind) v n (is-variable h v (omega arith) n e)))
       where
         kind-of : ((statement_of db h).kind ≡ 2) ⊎ ((statement_of db h).kind ≡ 3) → (statement_of db h).kind ≡ 3
         kind-of (inl k) = absurd (true-not-false (float-yes _ k) f)

@@ -166,9 +166,9 @@ module _ (f g : List ℕ) (zero-alike : Alike f 0 g 0) {syms syms' stmts stmts' 
     unfolding bad_label
     label_same = cc (kind-alike a, rest-alike a, used-labels (rest_at f o))
 
-    numbers-same : bad_numbers f syms stmts o ≡ bad_numbers g syms' stmts' o'
+    numbers_same : bad_numbers f syms stmts o ≡ bad_numbers g syms' stmts' o'
     unfolding bad_numbers defined variables typecode_at variable_at
-    numbers-same =
+    numbers_same =
         cc (
           kind-alike a,
           symbols-alike a,
@@ -184,7 +184,7 @@ module _ (f g : List ℕ) (zero-alike : Alike f 0 g 0) {syms syms' stmts stmts' 
 
     reference-same : bad_reference f syms stmts o ≡ bad_reference g syms' stmts' o'
     unfolding bad_reference
-    reference-same = cc (kind-alike a, numbers-same)
+    reference-same = cc (kind-alike a, numbers_same)
 
     assertion-same : bad_assertion f syms stmts o ≡ bad_assertion g syms' stmts' o'
     unfolding bad_assertion
@@ -212,9 +212,9 @@ module _ (f g : List ℕ) (zero-alike : Alike f 0 g 0) {syms syms' stmts stmts' 
     unfolding fault_at
     fine-alike owed n =
         sym (unless-skip _ (record-alike a)
-        (unless-skip _ (sym limit-same ∙ n.limit-row)
-        (unless-skip _ (sym symbol-same ∙ n.symbol-row)
-        (unless-skip _ (sym label_same ∙ n.label-row)
-        (unless-skip _ (sym reference-same ∙ n.reference-row)
+        (unless-skip _ (sym limit-same ∙ n.limit_row)
+        (unless-skip _ (sym symbol-same ∙ n.symbol_row)
+        (unless-skip _ (sym label_same ∙ n.label_row)
+        (unless-skip _ (sym reference-same ∙ n.reference_row)
         (unless-skip _ (sym frame_same ∙ n.frame_row)
-        (unless-skip _ (sym (proof-same owed) ∙ n.proof-row) refl)))))))
+        (unless-skip _ (sym (proof-same owed) ∙ n.proof_row) refl)))))))

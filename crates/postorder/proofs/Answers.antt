@@ -56,7 +56,7 @@ pub record Written (db : Database) (a : Answer) (l : LongAnswer) : Type 0 where
   pub consumed : ℕ
   pub accepts : a ≡ accepted place l.steps consumed tree
   pub text : l.text ≡ long_text db tree
-  pub length-is : l.place ≡ length (long_text db tree)
+  pub length_is : l.place ≡ length (long_text db tree)
 
 pub zero-written : (db : Database) (entries output : ℕ) (a : Answer) → (long_of db entries output a).number ≡ 0
     → Written db a (long_of db entries output a)
@@ -69,7 +69,7 @@ zero-written db entries output (accepted at completed consumed tree) z =
         → Written db (accepted at completed consumed tree)
         (pick t (nothing_written 60 at completed) (pick u (written completed (long_text db tree)) (nothing_written 61 at completed)))
     tried true u e = absurd (omega arith)
-    tried false true e = record { tree = tree; place = at; consumed = consumed; accepts = refl; text = refl; length-is = refl }
+    tried false true e = record { tree = tree; place = at; consumed = consumed; accepts = refl; text = refl; length_is = refl }
     tried false false e = absurd (omega arith)
 zero-written db entries output (refused why at completed) z = absurd (omega (arith, refusal-number why))
 zero-written db entries output (turned_away why at) z = absurd (omega (arith, file-number why))

@@ -23,7 +23,7 @@ use Rattle.machine.proofs.Gives.{Stands, goes, ends}
 use Rattle.machine.proofs.Every.{Every, none, also}
 use Rattle.postorder.specs.LongForm.{following, joined}
 use Rattle.postorder.proofs.Comes.{Lacks, Comes, comes, lacks, bind-parts}
-use Rattle.postorder.proofs.OneText.{Numbered, label-bytes, label-some}
+use Rattle.postorder.proofs.OneText.{Numbered, label_bytes, label_some}
 use Rattle.postorder.proofs.Naming.{not_byte, not-sign, split-label}
 use Rattle.postorder.proofs.Steps.{step_of}
 use Rattle.postorder.proofs.Trees.{run_all}
@@ -77,13 +77,13 @@ module _ (db : Database) (facts : Facts db) where
   unfolding following any
   good-following none = refl
   good-following (also {x} {xs} n ns) =
-      sym (either_second good-space (sym (any_append bad_byte (label_of db x) (following db xs) (good-label (label-bytes db facts x n)) (good-following ns))))
+      sym (either_second good-space (sym (any_append bad_byte (label_of db x) (following db xs) (good-label (label_bytes db facts x n)) (good-following ns))))
 
   -- 20 does not come
   pub good-text : {ss : List ℕ} → Every (Numbered db facts) ss → any bad_byte (joined db ss) ≡ false
   unfolding joined any
   good-text none = refl
-  good-text (also {x} {xs} n ns) = any_append bad_byte (label_of db x) (following db xs) (good-label (label-bytes db facts x n)) (good-following ns)
+  good-text (also {x} {xs} n ns) = any_append bad_byte (label_of db x) (following db xs) (good-label (label_bytes db facts x n)) (good-following ns)
 
 -- before the first token, or in a normal proof
 pub data Plain : Mode → Type 0 where
@@ -180,13 +180,13 @@ module _ (db : Database) (p : ℕ) (room : Room) where
         → Stands S Q (on_end db p room (on_bytes db p room (stand m mode [] at) (label_of db s ++ following db ss)))
     unfolding following run_all on_bytes go_on stand
     labels-run {P} {S} facts s [] m at pl n ns c rest =
-        rw (label-read m [] at [] pl (label-bytes db facts s n), end_read m (at + length (label_of db s)) (label_of db s) pl (label-some db facts s n))
-        (token-runs s m _ _ pl (label-bytes db facts s n) (bind-parts (step_of db p room s m) c) (λ m' d. last_one (at + length (label_of db s)) m' d))
+        rw (label-read m [] at [] pl (label_bytes db facts s n), end_read m (at + length (label_of db s)) (label_of db s) pl (label_some db facts s n))
+        (token-runs s m _ _ pl (label_bytes db facts s n) (bind-parts (step_of db p room s m) c) (λ m' d. last_one (at + length (label_of db s)) m' d))
       where
         last_one : (end : ℕ) (m' : Memory) → Comes P (fine m') → Stands S Q (finish db p end normal m')
         last_one end m' (comes q) = rest end m' q
     labels-run facts s (t ∷ ts) m at pl n (also k ks) c rest =
-        rw (label-and-space m at (label_of db t ++ following db ts) pl (label-bytes db facts s n) (label-some db facts s n))
+        rw (label-and-space m at (label_of db t ++ following db ts) pl (label_bytes db facts s n) (label_some db facts s n))
         (goes_on (label_of db t ++ following db ts)
-        (token-runs s m _ _ pl (label-bytes db facts s n) (bind-parts (step_of db p room s m) c)
+        (token-runs s m _ _ pl (label_bytes db facts s n) (bind-parts (step_of db p room s m) c)
         (λ m' d. goes (labels-run facts t ts m' _ later k ks d rest))))

@@ -8,8 +8,8 @@ use Rattle.machine.specs.Chain.{Result, fine, stop, unless, bind}
 
 -- the refusals for lack of room that the run of a long form may give (46 needs places, and 44 a 257th variable)
 pub data Lacks : Refusal → Type 0 where
-  pool-full : Lacks PoolFull
-  stack-full : Lacks StackFull
+  pool_full : Lacks PoolFull
+  stack_full : Lacks StackFull
 
 pub data Comes {A : Type 0} (P : A → Type 0) : Result A → Type 0 where
   comes : {x : A} → P x → Comes P (fine x)

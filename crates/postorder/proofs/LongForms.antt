@@ -21,14 +21,14 @@ use Rattle.machine.specs.Answer.{Answer, accepted, refused, turned_away, not_pro
 use Rattle.machine.specs.Memory.{Room, limited}
 use Rattle.machine.specs.Run.{run}
 use Rattle.machine.specs.Bench.{ended, answer_good, judged, answer}
-use Rattle.machine.specs.Promise.{Proves, Counted, all-steps}
+use Rattle.machine.specs.Promise.{Proves, Counted, all_steps}
 use Rattle.machine.proofs.Acceptance.{there-is, accepted-derives}
 use Rattle.machine.proofs.Numbers.{refusal-number}
 use Rattle.machine.proofs.Counts.{answer-counted}
 use Rattle.postorder.specs.LongForm.{long_text, fits, most_bytes, nothing_written, written, LongAnswer, long_of, long_answer, with_proof, entries_for}
 use Rattle.postorder.specs.SameBut.{SameBut}
 use Rattle.postorder.proofs.Sizes.{fits-exactly}
-use Rattle.postorder.proofs.Comes.{pool-full, stack-full}
+use Rattle.postorder.proofs.Comes.{pool_full, stack_full}
 use Rattle.postorder.proofs.Numbering.{NamedBy, named_by, run-named}
 use Rattle.postorder.proofs.Again.{Again, again, lacking, start-few, derivation-again}
 use Rattle.postorder.proofs.Answers.{zero-written, one-long-form}
@@ -66,9 +66,9 @@ ran-answer file p room good kind = rw (good.is, equal-yes kind)
 -- success, or a lack of room: 43, 45, 60, 61
 pub data Enough : ℕ → Type 0 where
   writes : Enough 0
-  no-pool : Enough 43
+  no_pool : Enough 43
   no_stack : Enough 45
-  no-entries : Enough 60
+  no_entries : Enough 60
   no_output : Enough 61
 
 told : (db : Database) (entries output : ℕ) (tree : Tree) (a : Answer) → Again tree a → (long_of db entries output a).number ≡ 0
@@ -84,14 +84,14 @@ numbers db entries output tree _ (again {place} {steps} {consumed}) =
   where
     tried : (t u : Bool)
         → Enough (pick t (nothing_written 60 place steps) (pick u (written steps (long_text db tree)) (nothing_written 61 place steps))).number
-    tried true u = no-entries
+    tried true u = no_entries
     tried false true = writes
     tried false false = no_output
-numbers db entries output tree _ (lacking pool-full) = no-pool
-numbers db entries output tree _ (lacking stack-full) = no_stack
+numbers db entries output tree _ (lacking pool_full) = no_pool
+numbers db entries output tree _ (lacking stack_full) = no_stack
 
 placed : {L place steps consumed : ℕ} {tree : Tree} → Counted L (accepted place steps consumed tree) → place ≡ L
-placed (all-steps b l) = refl
+placed (all_steps b l) = refl
 
 derived-same : {tree tree' : Tree} {place steps consumed : ℕ} (a : Answer) → Again tree a → a ≡ accepted place steps consumed tree' → tree' ≡ tree
 derived-same _ again e = cc
@@ -136,7 +136,7 @@ module _ (file : List ℕ) (p : ℕ) (room : Room) (place steps consumed : ℕ) 
   long-form-accepted room' =
       let same = long-form-same in
       let kind' = (same.statement p).kind ∙ ran.kind in
-      rw (ran-answer _ p room' long-form-good kind', same.text-is)
+      rw (ran-answer _ p room' long-form-good kind', same.text_is)
       (by_names (rw ran.runs at (run-named (database file) p (limited room) (statement_of (database file) p).text)))
     where
       same-claim : SameBut (database file) (database (with_proof file p (long_text (database file) tree))) p (long_text (database file) tree)
@@ -153,7 +153,7 @@ module _ (file : List ℕ) (p : ℕ) (room : Room) (place steps consumed : ℕ) 
           let db = database file in
           let first = first-same db _ p _ same in
           let l = start-few db p (limited room) (statement_of db p).text place steps consumed tree ran.runs in
-          let there' : p < length (database (with_proof file p (long_text (database file) tree))).statements = omega (arith, there, same.statement-count) in
+          let there' : p < length (database (with_proof file p (long_text (database file) tree))).statements = omega (arith, there, same.statement_count) in
           rw (text_same db _ p _ same tree) at
           (derivation-again _ p (good-facts _ long-form-good) there' (limited room') vars (few l) (rw first l)
           (λ v m. inside v (rw first at m)) tree (same-claim same)
@@ -166,7 +166,7 @@ module _ (file : List ℕ) (p : ℕ) (room : Room) (place steps consumed : ℕ) 
   long-form-place room' place' steps' consumed' tree' e =
       let same = long-form-same in
       let counted = answer-counted _ p room' _ _ long-form-good.is ((same.statement p).kind ∙ ran.kind) in
-      (placed (rw (e, same.text-is) at counted), derived-same _ (long-form-accepted room') e)
+      (placed (rw (e, same.text_is) at counted), derived-same _ (long-form-accepted room') e)
 
   -- its own long form: where the second call succeeds, it writes the same text
   pub long-form-own : (room' : Room) (entries' output' : ℕ)
@@ -186,10 +186,10 @@ module _ (file : List ℕ) (p : ℕ) (room : Room) (place steps consumed : ℕ) 
 
 -- accepted, with this derivation
 pub data AcceptedWith (tree : Tree) : Answer → Type 0 where
-  accepted-with : {place steps consumed : ℕ} → AcceptedWith tree (accepted place steps consumed tree)
+  accepted_with : {place steps consumed : ℕ} → AcceptedWith tree (accepted place steps consumed tree)
 
 accepted-as : {a : Answer} {place steps consumed : ℕ} {tree : Tree} → a ≡ accepted place steps consumed tree → AcceptedWith tree a
-accepted-as e = rw e accepted-with
+accepted-as e = rw e accepted_with
 
 -- all of it in terms of the call: for every file, statement number and room, if the call writes a text, and the file with that text in the
 -- old proof's place is within its size limit, then that file is good, its database is the old one but for that text, its proof is accepted
@@ -197,14 +197,14 @@ accepted-as e = rw e accepted-with
 -- that room is lacking
 pub record OneLongForm (file : List ℕ) (p : ℕ) (text : List ℕ) (first second : Answer) (again : LongAnswer) : Type 0 where
   pub derivation : Tree
-  pub text-is : text ≡ long_text (database file) derivation
+  pub text_is : text ≡ long_text (database file) derivation
   pub proves : Proves (database file) p derivation
   pub accepts : AcceptedWith derivation first
-  pub accepts-again : Again derivation second
+  pub accepts_again : Again derivation second
   pub good : GoodFile (with_proof file p text)
   pub same : SameBut (database file) (database (with_proof file p text)) p text
   pub number : Enough again.number
-  pub text-again : again.number ≡ 0 → again.text ≡ text
+  pub text_again : again.number ≡ 0 → again.text ≡ text
 
 pub demand-three : (file : List ℕ) (p : ℕ) (room room' : Room) (entries output entries' output' : ℕ) (text : List ℕ)
     → (long_answer file p room entries output).number ≡ 0 → (long_answer file p room entries output).text ≡ text
@@ -219,12 +219,12 @@ demand-three file p room room' entries output entries' output' text z t whole =
     rw e
     (record {
       derivation = w.tree;
-      text-is = refl;
+      text_is = refl;
       proves = accepted-derives file p room w.accepts;
       accepts = accepted-as w.accepts;
-      accepts-again = long-form-accepted file p room w.place _ w.consumed w.tree w.accepts short whole' room';
+      accepts_again = long-form-accepted file p room w.place _ w.consumed w.tree w.accepts short whole' room';
       good = long-form-good file p room w.place _ w.consumed w.tree w.accepts short whole';
       same = long-form-same file p room w.place _ w.consumed w.tree w.accepts short whole';
       number = long-form-numbers file p room w.place _ w.consumed w.tree w.accepts short whole' room' entries' output';
-      text-again = long-form-own file p room w.place _ w.consumed w.tree w.accepts short whole' room' entries' output';
+      text_again = long-form-own file p room w.place _ w.consumed w.tree w.accepts short whole' room' entries' output';
     })

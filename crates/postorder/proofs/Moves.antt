@@ -29,14 +29,14 @@ pub record Place (f : List ℕ) (w : Outcome) (p at q r : ℕ) : Type 0 where
   pub there : p < length w.index.statements
   pub is : get_or w.index.statements p 0 ≡ at
   pub kind : kind_at f at ≡ 5
-  pub proof-at : next_at f at ≡ q
-  pub proof-kind : kind_at f q ≡ 6
-  pub proof-end : next_at f q ≡ r
+  pub proof_at : next_at f at ≡ q
+  pub proof_kind : kind_at f q ≡ 6
+  pub proof_end : next_at f q ≡ r
   pub within : r ≤ length f
 
 -- the proofs of a statement in both files: both are alike, or they are the old and the new
 pub data ProofMoved (f g : List ℕ) (q : ℕ) : ℕ → ℕ → Type 0 where
-  the-new : ProofMoved f g q q q
+  the_new : ProofMoved f g q q q
   the_same : {x y : ℕ} → (x ≡ q → ⊥) → Alike f x g y → ProofMoved f g q x y
 
 -- a statement in both files, where the walks stand at o and o'
@@ -88,7 +88,7 @@ proof-grows : {f g : List ℕ} {q : ℕ} {ix ix' : Index} → kind_at f q ≡ 6 
 unfolding after pick is_statement asserts supposes either equal
 proof-grows k k' n n' m =
     rw (k, k')
-    (record { symbols = m.symbols; statements = both-map (λ x y s. proof-read the-new s) m.statements; owed = refl })
+    (record { symbols = m.symbols; statements = both-map (λ x y s. proof-read the_new s) m.statements; owed = refl })
 
 next-same : {f g : List ℕ} {o : ℕ} → Alike f o g o → next_at g o ≡ next_at f o
 unfolding next_at
@@ -121,12 +121,12 @@ module _ (f : List ℕ) (w : Outcome) (a b p at q r : ℕ) (good : w.verdict ≡
     (short : length text ≤ 65536) where
   order : (at < q) × (q < r)
   unfolding next_at
-  order = (omega (arith, place.proof-at), omega (arith, place.proof-end))
+  order = (omega (arith, place.proof_at), omega (arith, place.proof_end))
 
   -- where the two walks stand
   pub data Where (ix : Index) : ℕ → ℕ → Type 0 where
     before : {o : ℕ} → length ix.statements ≤ p → o ≤ at → Where ix o o
-    at-proof : ix.owed ≡ true → Where ix q q
+    at_proof : ix.owed ≡ true → Where ix q q
     past : {o : ℕ} → r ≤ o → Where ix o (q + (6 + length text) + (o - r))
 
   -- a statement that is not number p leaves p ahead
@@ -165,9 +165,9 @@ module _ (f : List ℕ) (w : Outcome) (a b p at q r : ℕ) (good : w.verdict ≡
     where
       cases : (o ≡ at) ⊎ (o < at) → (next_at f o ≤ q) × Where (after f ix o) (next_at f o) (next_at f o)
       cases (inl c) =
-          let here : next_at f o ≡ q = rw c place.proof-at in
+          let here : next_at f o ≡ q = rw c place.proof_at in
           let kind : kind_at f o ≡ 5 = rw c place.kind in
-          rw here (omega arith, at-proof (equal-yes kind))
+          rw here (omega arith, at_proof (equal-yes kind))
       cases (inr c) =
           let s = still-ahead k ix o l c e in
           (omega (arith, order.0, s.1), before s.0 s.1)
@@ -203,23 +203,23 @@ module _ (f : List ℕ) (w : Outcome) (a b p at q r : ℕ) (good : w.verdict ≡
       → IndexMoved f (replacing f q r text) q o o' ix ix' → walk k f (after f ix o) (next_at f o) ≡ w → Where ix o o' → Step ix ix' o o'
   step-moves k ix ix' {o} z n m e (before l h) =
       let s = before-next k ix o l h e in
-      let a = alike-before f q r text (omega (arith, order.1)) place.within o (record-well-formed f o n.record-row) s.0 in
+      let a = alike-before f q r text (omega (arith, order.1)) place.within o (record-well-formed f o n.record_row) s.0 in
       let same : next_at (replacing f q r text) o ≡ next_at f o = next-same a in
       alike-step ix ix' o o (λ c. omega (arith, order.0)) z a n m (rw same s.1)
-  step-moves k ix ix' z n m e (at-proof owed) =
+  step-moves k ix ix' z n m e (at_proof owed) =
       record {
         fine = rw (m.owed ∙ owed) (new-fine f q r text (omega (arith, order.1)) place.within short ix'.symbols ix'.statements);
         goes = past-proof;
-        moved = proof-grows place.proof-kind (new-kind f q r text (omega (arith, order.1)) place.within) _ _ m;
+        moved = proof-grows place.proof_kind (new-kind f q r text (omega (arith, order.1)) place.within) _ _ m;
         forward = omega (arith, new-next f q r text (omega (arith, order.1)) place.within);
       }
     where
       past-proof : Where (after f ix q) (next_at f q) (next_at (replacing f q r text) q)
       past-proof =
           let start : q + (6 + length text) ≡ q + (6 + length text) + (r - r) = omega arith in
-          rw (place.proof-end, new-next f q r text (omega (arith, order.1)) place.within, start) (past {o = r} (omega arith))
+          rw (place.proof_end, new-next f q r text (omega (arith, order.1)) place.within, start) (past {o = r} (omega arith))
   step-moves k ix ix' {o} z n m e (past h) =
-      let a = alike-after f q r text (omega (arith, order.1)) place.within o (record-well-formed f o n.record-row) h in
+      let a = alike-after f q r text (omega (arith, order.1)) place.within o (record-well-formed f o n.record_row) h in
       alike-step ix ix' o (q + (6 + length text) + (o - r)) (λ c. omega (arith, order.1)) z a n m (past_next o h a)
 
   -- the whole walk: both end well, with the same records read
@@ -233,12 +233,12 @@ module _ (f : List ℕ) (w : Outcome) (a b p at q r : ℕ) (good : w.verdict ≡
   -- at the end of the one file the other ends too, and not before
   ends_there : {ix : Index} {o o' : ℕ} → Where ix o o' → o ≡ length f → o' ≡ length (replacing f q r text)
   ends_there (before l h) e = absurd (omega (arith, order.0, order.1, place.within))
-  ends_there (at-proof h) e = absurd (omega (arith, order.1, place.within))
+  ends_there (at_proof h) e = absurd (omega (arith, order.1, place.within))
   ends_there (past h) e = omega (arith, size)
 
   not_there : {ix : Index} {o o' : ℕ} → Where ix o o' → o < length f → o' < length (replacing f q r text)
   not_there (before l h) e = omega (arith, order.0, size)
-  not_there (at-proof h) e = omega (arith, size)
+  not_there (at_proof h) e = omega (arith, size)
   not_there (past h) e = omega (arith, size, place.within)
 
   none-owed : (owed : Bool) (n s t : ℕ) → end_verdict owed n s t ≡ Good a b → owed ≡ false
@@ -276,7 +276,7 @@ module _ (f : List ℕ) (w : Outcome) (a b p at q r : ℕ) (good : w.verdict ≡
           let d = below_true _ _ c in
           let n = walk_steps f k ix o w a b e good d in
           let s = step-moves k ix ix' z n.0 m n.1 v in
-          let formed = record-well-formed f o n.0.record-row in
+          let formed = record-well-formed f o n.0.record_row in
           rw (walk-goes k' (replacing f q r text) ix' o' (not_there v d) s.fine)
           (rest (after f ix o) (after (replacing f q r text) ix' o') (next_at f o) (next_at (replacing f q r text) o') n.1
           (omega (arith, next-later f o)) (omega (arith, s.forward)) formed.within s.goes s.moved)

@@ -106,7 +106,7 @@ module _ (db : Database) (p : ℕ) (facts : Facts db) (there : p < length db.sta
       → bears (label_of db s) (statement_of db j) ≡ false
   unfolding bears label_of
   others-differ s j l k n =
-      not-true _ (λ e. n (facts.labels-differ j s k l (same_true _ _ (both_true _ _ e).1)))
+      not-true _ (λ e. n (facts.labels_differ j s k l (same_true _ _ (both_true _ _ e).1)))
 
   sought-itself : (s : ℕ) → s < length db.statements → ((statement_of db s).kind ≡ 3 → ⊥) → sought db (label_of db s) ≡ some s
   unfolding sought statement_of label_of
@@ -133,7 +133,7 @@ module _ (db : Database) (p : ℕ) (facts : Facts db) (there : p < length db.sta
       tried (λ n. own-itself s hs l k n (λ g i. known g (Memᴰ.tail i))) (bears_own (label_of db s) (statement_of db h)) refl (Memᴰ.cases_cons m)
     where
       by-label : bears_own (label_of db s) (statement_of db h) ≡ true → h ≡ s
-      by-label e = facts.labels-differ h s (known h (Memᴰ.head refl)) l (own-label _ _ e)
+      by-label e = facts.labels_differ h s (known h (Memᴰ.head refl)) l (own-label _ _ e)
 
       tried : (s ∈ hs → sought_own db (label_of db s) hs ≡ some s) → (t : Bool) → bears_own (label_of db s) (statement_of db h) ≡ t → (s ≡ h) ⊎ (s ∈ hs)
           → pick (bears_own (label_of db s) (statement_of db h)) (some h) (sought_own db (label_of db s) hs) ≡ some s
@@ -154,7 +154,7 @@ module _ (db : Database) (p : ℕ) (facts : Facts db) (there : p < length db.sta
       tried true e =
           let k = equal-true _ _ e in
           rw (sought-none s here k)
-          (own-itself s _ here k (n.own k) (λ h m. let a = ((facts.statement p there).hyps-active h m).earlier in omega arith))
+          (own-itself s _ here k (n.own k) (λ h m. let a = ((facts.statement p there).hyps_active h m).earlier in omega arith))
       tried false e = rw (sought-itself s here (λ k. true-not-false (equal-yes k) e))
 
   -- so its token is prepared as that statement

@@ -25,7 +25,7 @@ use Rattle.postorder.proofs.Alike.{Alike, kind-alike, hyps-alike, pairs-alike, s
 use Rattle.postorder.proofs.AlikeRows.{none, both-length, both_at}
 use Rattle.postorder.proofs.Replaced.{replacing, alike-before, new-text}
 use Rattle.postorder.proofs.Ahead.{walk_steps}
-use Rattle.postorder.proofs.Moves.{Place, ProofMoved, the-new, the_same, StatementMoved, IndexMoved, before, Moved, before-next, walk-moves, next-later}
+use Rattle.postorder.proofs.Moves.{Place, ProofMoved, the_new, the_same, StatementMoved, IndexMoved, before, Moved, before-next, walk-moves, next-later}
 use Rattle.postorder.proofs.InRow.{in_row}
 
 -- the outcome of a file that is not too long is that of its walk
@@ -77,11 +77,11 @@ less a b l n = tried (below a b) refl
 
 -- which proof it is
 proof-new : {f g : List ℕ} {q a b : ℕ} → ProofMoved f g q a b → a ≡ q → b ≡ q
-proof-new the-new e = refl
+proof-new the_new e = refl
 proof-new (the_same d a) e = absurd (d e)
 
 proof-old : {f g : List ℕ} {q a b : ℕ} → ProofMoved f g q a b → (a ≡ q → ⊥) → Alike f a g b
-proof-old the-new n = absurd (n refl)
+proof-old the_new n = absurd (n refl)
 proof-old (the_same d a) n = a
 
 no_symbol : (db : Database) (s : ℕ) → length db.symbols ≤ s → symbol_of db s ≡ record { at = 0; class = 0; name = [] }
@@ -112,11 +112,11 @@ module _ (f : List ℕ) (p : ℕ) (text : List ℕ) (good : GoodFile f) (there :
       record {
         there = there';
         is = offset;
-        kind = facts.statement-kind p there ∙ kind;
-        proof-at = refl;
-        proof-kind = facts.proof-follows p there kind;
-        proof-end = refl;
-        within = facts.proof-within p there kind;
+        kind = facts.statement_kind p there ∙ kind;
+        proof_at = refl;
+        proof_kind = facts.proof_follows p there kind;
+        proof_end = refl;
+        within = facts.proof_within p there kind;
       }
 
   new : with_proof f p text ≡ replacing f (proof_from f p) (next_at f (proof_from f p)) text
@@ -135,7 +135,7 @@ module _ (f : List ℕ) (p : ℕ) (text : List ℕ) (good : GoodFile f) (there :
       let s = before-next f (outcome f) _ _ p _ _ _ good-outcome place text short (length f) nothing 0 (omega arith) (omega arith) n.1 in
       rw new
       (alike-before f (proof_from f p) (next_at f (proof_from f p)) text (omega (arith, next-later f (proof_from f p))) place.within 0
-      (record-well-formed f 0 n.0.record-row) s.0)
+      (record-well-formed f 0 n.0.record_row) s.0)
 
   moved : Moved f (outcome f) _ _ p _ (proof_from f p) (next_at f (proof_from f p)) good-outcome place text short (outcome (with_proof f p text))
   unfolding nothing replacing with_proof
@@ -241,7 +241,7 @@ module _ (f : List ℕ) (p : ℕ) (text : List ℕ) (good : GoodFile f) (there :
       let here : s < length (database f).statements = omega (arith, database-statements f) in
       let kind-is : (statement_of (database f) s).kind ≡ 5 = ap (λ (x : Statement). x.kind) st ∙ k in
       let at-is : (statement_of (database f) s).at ≡ get_or (index f).statements s 0 = ap (λ (x : Statement). x.at) st in
-      let within = rw at-is at (facts.proof-within s here kind-is) in
+      let within = rw at-is at (facts.proof_within s here kind-is) in
       omega (arith, next-later f (next_at f (get_or (index f).statements s 0)))
 
   text-elsewhere : (s : ℕ) → (s ≡ p → ⊥) → (statement_of (database (with_proof f p text)) s).text ≡ (statement_of (database f) s).text
@@ -277,9 +277,9 @@ module _ (f : List ℕ) (p : ℕ) (text : List ℕ) (good : GoodFile f) (there :
   same-but =
       record {
         symbol-count = omega (arith, database-symbols f, database-symbols (with_proof f p text), symbols-many);
-        statement-count = omega (arith, database-statements f, database-statements (with_proof f p text), statements-many);
+        statement_count = omega (arith, database-statements f, database-statements (with_proof f p text), statements-many);
         symbol = same-symbol;
         statement = same-statement;
-        text-is = text-there;
-        text-kept = text-elsewhere;
+        text_is = text-there;
+        text_kept = text-elsewhere;
       }

@@ -236,7 +236,7 @@ module _ (db : Database) (p : ℕ) (room : Room) where
 pub data NamedBy (db : Database) (p : ℕ) : Answer → Type 0 where
   named_by : {place steps consumed : ℕ} {tree : Tree} (vars : List ℕ) → (length (first_variables db p) ≤ 256 → length vars ≤ 256)
       → ((v : ℕ) → v ∈ first_variables db p → v ∈ vars) → Covered db vars (post_order tree) → NamedBy db p (accepted place steps consumed tree)
-  not-accepted : {why : Refusal} {place steps : ℕ} → NamedBy db p (refused why place steps)
+  not_accepted : {why : Refusal} {place steps : ℕ} → NamedBy db p (refused why place steps)
 
 module _ (db : Database) (p : ℕ) where
   claim-named : {vars : List ℕ} (claim : Expression) (x : Proved) → Names db vars x → Gives (Names db vars) (is_claim claim x)
@@ -275,8 +275,8 @@ module _ (db : Database) (p : ℕ) where
         saves = λ n. save-names room _ n n.stack;
         tokens = λ token n. bind-gives (normal-names db p room _ token n) (run-names db p room token.mark);
         locals = λ label n. local-names db p room _ label n;
-        refuses = λ why n k s. not-accepted;
-        refuses-first = λ why. not-accepted;
+        refuses = λ why n k s. not_accepted;
+        refuses_first = λ why. not_accepted;
         accepts = accepts-named;
       }
 

@@ -31,8 +31,8 @@ module _ (db : Database) where
   -- leaves are hypotheses, and a node has as many trees below it as its assertion lists hypotheses
   mutual
     pub data Shaped : Tree → Type 0 where
-      a-leaf : {h : ℕ} → supposes (statement_of db h).kind ≡ true → Shaped (leaf h)
-      a-node : {a : ℕ} {trees : Forest} → supposes (statement_of db a).kind ≡ false → ShapedAll trees (length (statement_of db a).hyps)
+      a_leaf : {h : ℕ} → supposes (statement_of db h).kind ≡ true → Shaped (leaf h)
+      a_node : {a : ℕ} {trees : Forest} → supposes (statement_of db a).kind ≡ false → ShapedAll trees (length (statement_of db a).hyps)
           → Shaped (node a trees)
 
     pub data ShapedAll : Forest → ℕ → Type 0 where
@@ -53,9 +53,9 @@ module _ (db : Database) where
     unfolding ground
 
     pub derivation-shaped : (p : ℕ) (tree : Tree) {e : Expression} → Derives (ground db p) tree e → Shaped tree
-    derivation-shaped p (leaf h) (supposed _ e may) = a-leaf (supposes-yes _ may.active.kind)
+    derivation-shaped p (leaf h) (supposed _ e may) = a_leaf (supposes-yes _ may.active.kind)
     derivation-shaped p (node a trees) (applied _ frame σ _ may all kept) =
-        a-node (supposes-no _ may.kind) (as_many (hyps-count p a frame σ may.is) (derivations-shaped p trees all))
+        a_node (supposes-no _ may.kind) (as_many (hyps-count p a frame σ may.is) (derivations-shaped p trees all))
 
     derivations-shaped : (p : ℕ) (trees : Forest) {es : List Expression} → DeriveAll (ground db p) trees es → ShapedAll trees (length es)
     derivations-shaped p empty nothing = none_left
@@ -125,8 +125,8 @@ module _ (db : Database) where
 
     reads-tree : {tree : Tree} → Shaped tree → (rest : List ℕ) (stack : List Tree)
         → rebuilt (post_order tree ++ rest) stack ≡ rebuilt rest (tree ∷ stack)
-    reads-tree (a-leaf {h} e) rest stack = ap (λ (st : List Tree). rebuilt rest st) (reads-leaf h stack e)
-    reads-tree (a-node {a} {trees} e s) rest stack =
+    reads-tree (a_leaf {h} e) rest stack = ap (λ (st : List Tree). rebuilt rest st) (reads-leaf h stack e)
+    reads-tree (a_node {a} {trees} e s) rest stack =
         rw append_assoc (reads-forest s (a ∷ rest) stack ∙ ap (λ (st : List Tree). rebuilt rest st) (reads-node a stack e s))
 
     reads-forest : {trees : Forest} {n : ℕ} → ShapedAll trees n → (rest : List ℕ) (stack : List Tree)

@@ -25,16 +25,16 @@ no-space (dot q) e = omega arith
 
 -- nothing, or a space and more
 data Ends : List ℕ → Type 0 where
-  at-end : Ends []
-  at-space : {bs : List ℕ} → Ends (32 ∷ bs)
+  at_end : Ends []
+  at_space : {bs : List ℕ} → Ends (32 ∷ bs)
 
 -- two texts that begin with a label each: the labels are the same, and so is the rest
 first-same : {xs ys : List ℕ} {u v : List ℕ} → Every LabelByte xs → Every LabelByte ys → Ends u → Ends v → xs ++ u ≡ ys ++ v → (xs ≡ ys) × (u ≡ v)
 first-same none none a b e = (refl, e)
-first-same none (also {x = y} {xs = ys} l ls) at-end b e = let z : ◌≡◌ {A = ℕ} 0 1 = cc in absurd (omega arith)
-first-same none (also {x = y} {xs = ys} l ls) at-space b e = let z : 32 ≡ y = cc in absurd (no-space l (sym z))
-first-same (also {x} {xs} l ls) none a at-end e = let z : ◌≡◌ {A = ℕ} 0 1 = cc in absurd (omega arith)
-first-same (also {x} {xs} l ls) none a at-space e = let z : x ≡ 32 = cc in absurd (no-space l z)
+first-same none (also {x = y} {xs = ys} l ls) at_end b e = let z : ◌≡◌ {A = ℕ} 0 1 = cc in absurd (omega arith)
+first-same none (also {x = y} {xs = ys} l ls) at_space b e = let z : 32 ≡ y = cc in absurd (no-space l (sym z))
+first-same (also {x} {xs} l ls) none a at_end e = let z : ◌≡◌ {A = ℕ} 0 1 = cc in absurd (omega arith)
+first-same (also {x} {xs} l ls) none a at_space e = let z : x ≡ 32 = cc in absurd (no-space l z)
 first-same {u} {v} (also {x} {xs} l ls) (also {x = y} {xs = ys} k ks) a b e =
     let tail : xs ++ u ≡ ys ++ v = cc in
     let both = first-same ls ks a b tail in
@@ -50,22 +50,22 @@ module _ (db : Database) (facts : Facts db) where
   made_every [] f = none
   made_every (x ∷ xs) f = also (f x (Memᴰ.head refl)) (made_every xs (λ b m. f b (Memᴰ.tail m)))
 
-  pub label-bytes : (s : ℕ) → Numbered s → Every LabelByte (label_of db s)
+  pub label_bytes : (s : ℕ) → Numbered s → Every LabelByte (label_of db s)
   unfolding label_of
-  label-bytes s n = made_every _ (facts.statement s n.there).label-bytes
+  label_bytes s n = made_every _ (facts.statement s n.there).label_bytes
 
-  pub label-some : (s : ℕ) → Numbered s → 1 ≤ length (label_of db s)
+  pub label_some : (s : ℕ) → Numbered s → 1 ≤ length (label_of db s)
   unfolding label_of
-  label-some s n = (facts.statement s n.there).label-some
+  label_some s n = (facts.statement s n.there).label_some
 
   same-label : (s t : ℕ) → Numbered s → Numbered t → label_of db s ≡ label_of db t → s ≡ t
   unfolding label_of
-  same-label s t n k e = facts.labels-differ s t n.there k.there e
+  same-label s t n k e = facts.labels_differ s t n.there k.there e
 
   following-ends : (ss : List ℕ) → Ends (following db ss)
   unfolding following
-  following-ends [] = at-end
-  following-ends (s ∷ ss) = at-space
+  following-ends [] = at_end
+  following-ends (s ∷ ss) = at_space
 
   following-same : {ss ts : List ℕ} → Every Numbered ss → Every Numbered ts → following db ss ≡ following db ts → ss ≡ ts
   unfolding following
@@ -74,7 +74,7 @@ module _ (db : Database) (facts : Facts db) where
   following-same (also n ns) none e = let z : ◌≡◌ {A = ℕ} 0 1 = cc in absurd (omega arith)
   following-same (also {x = s} {xs = ss} n ns) (also {x = t} {xs = ts} k ks) e =
       let tails : label_of db s ++ following db ss ≡ label_of db t ++ following db ts = cc in
-      let both = first-same (label-bytes s n) (label-bytes t k) (following-ends ss) (following-ends ts) tails in
+      let both = first-same (label_bytes s n) (label_bytes t k) (following-ends ss) (following-ends ts) tails in
       cc (same-label s t n k both.0, following-same ns ks both.1)
 
   long-enough : (xs u : List ℕ) → 1 ≤ length xs → xs ++ u ≡ [] → ⊥
@@ -84,10 +84,10 @@ module _ (db : Database) (facts : Facts db) where
   pub joined_same : {ss ts : List ℕ} → Every Numbered ss → Every Numbered ts → joined db ss ≡ joined db ts → ss ≡ ts
   unfolding joined
   joined_same none none e = refl
-  joined_same none (also {x = t} k ks) e = absurd (long-enough (label_of db t) _ (label-some t k) (sym e))
-  joined_same (also {x = s} n ns) none e = absurd (long-enough (label_of db s) _ (label-some s n) e)
+  joined_same none (also {x = t} k ks) e = absurd (long-enough (label_of db t) _ (label_some t k) (sym e))
+  joined_same (also {x = s} n ns) none e = absurd (long-enough (label_of db s) _ (label_some s n) e)
   joined_same (also {x = s} {xs = ss} n ns) (also {x = t} {xs = ts} k ks) e =
-      let both = first-same (label-bytes s n) (label-bytes t k) (following-ends ss) (following-ends ts) e in
+      let both = first-same (label_bytes s n) (label_bytes t k) (following-ends ss) (following-ends ts) e in
       cc (same-label s t n k both.0, following-same ns ks both.1)
 
   module _ (p : ℕ) (there' : p < length db.statements) where

@@ -31,7 +31,7 @@ use Rattle.postorder.proofs.Answers.{zero-written}
 data InStep {A : Type 0} : Result A → Result A → Type 0 where
   gives : {x : A} → InStep (fine x) (fine x)
   first_stops : {why : Refusal} {r : Result A} → InStep (stop why) r
-  second-stops : {why : Refusal} {r : Result A} → InStep r (stop why)
+  second_stops : {why : Refusal} {r : Result A} → InStep r (stop why)
 
 itself : {A : Type 0} (r : Result A) → InStep r r
 itself (fine x) = gives
@@ -41,7 +41,7 @@ itself (stop why) = first_stops
 unless-step : {A : Type 0} {r r' : Result A} (t t' : Bool) (why why' : Refusal) → InStep r r' → InStep (unless t why r) (unless t' why' r')
 unfolding unless
 unless-step true t' why why' s = first_stops
-unless-step false true why why' s = second-stops
+unless-step false true why why' s = second_stops
 unless-step false false why why' s = s
 
 bind-step : {A B : Type 0} {r r' : Result A} {next next' : A → Result B} → InStep r r' → ((x : A) → InStep (next x) (next' x))
@@ -49,7 +49,7 @@ bind-step : {A B : Type 0} {r r' : Result A} {next next' : A → Result B} → I
 unfolding bind
 bind-step gives rest = rest _
 bind-step first_stops rest = first_stops
-bind-step second-stops rest = second-stops
+bind-step second_stops rest = second_stops
 
 pick-step : {A : Type 0} {r r' s s' : Result A} (t : Bool) → InStep r r' → InStep s s' → InStep (pick t r s) (pick t r' s')
 unfolding pick
@@ -59,15 +59,15 @@ pick-step false a b = b
 -- two runs stand alike, unless one of them was refused
 data Abreast : State → State → Type 0 where
   alike : {s : State} → Abreast s s
-  first-refused : {why : Refusal} {at steps : ℕ} {s : State} → Abreast (over (refused why at steps)) s
-  second-refused : {why : Refusal} {at steps : ℕ} {s : State} → Abreast s (over (refused why at steps))
+  first_refused : {why : Refusal} {at steps : ℕ} {s : State} → Abreast (over (refused why at steps)) s
+  second_refused : {why : Refusal} {at steps : ℕ} {s : State} → Abreast s (over (refused why at steps))
 
 settle-abreast : {A : Type 0} {r r' : Result A} {next next' : A → State} (at steps : ℕ) → InStep r r' → ((x : A) → Abreast (next x) (next' x))
     → Abreast (settle r at steps next) (settle r' at steps next')
 unfolding settle
 settle-abreast at steps gives rest = rest _
-settle-abreast at steps first_stops rest = first-refused
-settle-abreast at steps second-stops rest = second-refused
+settle-abreast at steps first_stops rest = first_refused
+settle-abreast at steps second_stops rest = second_refused
 
 pick-abreast : {r r' s s' : State} (t : Bool) → Abreast r r' → Abreast s s' → Abreast (pick t r s) (pick t r' s')
 unfolding pick
@@ -220,8 +220,8 @@ module _ (db : Database) (p : ℕ) (room room' : Room) where
   on-byte : {s s' : State} (b : ℕ) → Abreast s s' → Abreast (on_byte db p room s b) (on_byte db p room' s' b)
   unfolding on_byte
   on-byte b (alike {s}) = next-byte s b
-  on-byte b first-refused = first-refused
-  on-byte b second-refused = second-refused
+  on-byte b first_refused = first_refused
+  on-byte b second_refused = second_refused
 
   on-bytes : {s s' : State} (bs : List ℕ) → Abreast s s' → Abreast (on_bytes db p room s bs) (on_bytes db p room' s' bs)
   unfolding on_bytes
@@ -237,8 +237,8 @@ module _ (db : Database) (p : ℕ) (room room' : Room) where
   on-end : {s s' : State} → Abreast s s' → Abreast (on_end db p room s) (on_end db p room' s')
   unfolding on_end
   on-end (alike {s}) = last_byte s
-  on-end first-refused = first-refused
-  on-end second-refused = second-refused
+  on-end first_refused = first_refused
+  on-end second_refused = second_refused
 
   abreast : (text : List ℕ) → Abreast (run db p room text) (run db p room' text)
   unfolding run
@@ -247,14 +247,14 @@ module _ (db : Database) (p : ℕ) (room room' : Room) where
 -- two answers are the same, unless one is a refusal
 data SameAnswer : Answer → Answer → Type 0 where
   same_answer : {a : Answer} → SameAnswer a a
-  first-refusal : {why : Refusal} {at steps : ℕ} {a : Answer} → SameAnswer (refused why at steps) a
-  second-refusal : {why : Refusal} {at steps : ℕ} {a : Answer} → SameAnswer a (refused why at steps)
+  first_refusal : {why : Refusal} {at steps : ℕ} {a : Answer} → SameAnswer (refused why at steps) a
+  second_refusal : {why : Refusal} {at steps : ℕ} {a : Answer} → SameAnswer a (refused why at steps)
 
 ended_same : {s s' : State} → Abreast s s' → SameAnswer (ended s) (ended s')
 unfolding ended
 ended_same alike = same_answer
-ended_same first-refused = first-refusal
-ended_same second-refused = second-refusal
+ended_same first_refused = first_refusal
+ended_same second_refused = second_refusal
 
 answers-same : (file : List ℕ) (p : ℕ) (room room' : Room) → SameAnswer (answer file p room) (answer file p room')
 unfolding answer judged answer_good pick
@@ -273,8 +273,8 @@ both-accepted : {a a' : Answer} {place steps consumed place' steps' consumed' : 
     → a ≡ accepted place steps consumed tree → a' ≡ accepted place' steps' consumed' tree'
     → accepted place steps consumed tree ≡ accepted place' steps' consumed' tree'
 both-accepted same_answer e e' = sym e ∙ e'
-both-accepted first-refusal e e' = let z : ◌≡◌ {A = ℕ} 0 1 = cc in absurd (omega arith)
-both-accepted second-refusal e e' = let z : ◌≡◌ {A = ℕ} 0 1 = cc in absurd (omega arith)
+both-accepted first_refusal e e' = let z : ◌≡◌ {A = ℕ} 0 1 = cc in absurd (omega arith)
+both-accepted second_refusal e e' = let z : ◌≡◌ {A = ℕ} 0 1 = cc in absurd (omega arith)
 
 module _ (file : List ℕ) (p : ℕ) (room room' : Room) where
   -- one proof accepted in two rooms: place, steps and derivation are the same

@@ -22,7 +22,7 @@ use Rattle.machine.specs.Memory.{Room, Proved, recalls, applies, Entry, Memory, 
 use Rattle.machine.specs.Prepare.{numbered, numbered_by, Ready, ready, spend, leaf_of, prepare_hypothesis, prepare_statement, prepare_normal}
 use Rattle.machine.specs.Apply.{label_of, check_marks, bound, forest, conclusion, conclude, apply_assertion, assign_entries, run_prepared, run_ready}
 use Rattle.machine.proofs.Bound.{float-kind}
-use Rattle.postorder.proofs.Comes.{pool-full, stack-full, Comes, comes, unless_not, unless-lacks, bind-comes, pick_yes, pick-not}
+use Rattle.postorder.proofs.Comes.{pool_full, stack_full, Comes, comes, unless_not, unless-lacks, bind-comes, pick_yes, pick-not}
 use Rattle.postorder.proofs.OneReading.{supposes-yes}
 use Rattle.postorder.proofs.Naming.{Nameable, prepared-itself}
 use Rattle.postorder.proofs.Agree.{Matched, matched-length, float_same, claim-same, essential-same, hyps-pass}
@@ -113,14 +113,14 @@ module _ (db : Database) (p : ℕ) (facts : Facts db) (there : p < length db.sta
       let n = named-within vars (statement_of db h) m.variables has w.once w.each in
       let l = no_more vars n.0 n.1 in
       unless_not _ (below-no (omega arith))
-      (unless-lacks _ pool-full
+      (unless-lacks _ pool_full
       (comes (record { stack = refl; within = record { once = n.0; each = n.1 }; step = refl })))
 
   leaf-runs : (h : ℕ) (m : Memory) (r : Ready) → ReadyLeaf h m r → Comes (After vars (leaf_of db h) m) (run_ready db p room none r)
   unfolding run_ready run_prepared push plain
   leaf-runs h m r s =
       rw s.step
-      (unless-lacks _ stack-full
+      (unless-lacks _ stack_full
       (comes (record {
         stack = ap (λ (es : List Entry). plain (leaf_of db h) ∷ es) s.stack;
         within = record { once = s.within.once; each = s.within.each };
@@ -148,8 +148,8 @@ module _ (db : Database) (p : ℕ) (facts : Facts db) (there : p < length db.sta
       → Comes (λ m'. (m'.stack ≡ plain y ∷ left) × Within vars m') (conclude db room m none h x)
   unfolding conclude push spend plain
   concluded m x y h left w e d =
-      unless-lacks _ pool-full
-      (unless-lacks _ stack-full
+      unless-lacks _ pool_full
+      (unless-lacks _ stack_full
       (comes (cc, record { once = w.once; each = w.each })))
 
   module _ (a : ℕ) (before : a < p) (kind : 4 ≤ (statement_of db a).kind) (τ : Substitution)

@@ -38,8 +38,8 @@ proved e tree = record { expression = e; tree = tree }
 -- after the labels of several trees: one entry for each, the last on top
 pub record AfterAll (vars : List ℕ) (trees : Forest) (es : List Expression) (m m' : Memory) : Type 0 where
   pub entries : List Proved
-  pub trees-are : forest entries ≡ trees
-  pub expressions-are : map (λ (x : Proved). x.expression) entries ≡ es
+  pub trees_are : forest entries ≡ trees
+  pub expressions_are : map (λ (x : Proved). x.expression) entries ≡ es
   pub stack : m'.stack ≡ stacked entries m.stack
   pub within : Within vars m'
 
@@ -64,8 +64,8 @@ module _ (db : Database) (p : ℕ) (facts : Facts db) (there : p < length db.sta
   one_more vars tree trees e es m m' m'' a b =
       record {
         entries = proved e tree ∷ b.entries;
-        trees-are = ap (λ (ts : Forest). and tree ts) b.trees-are;
-        expressions-are = ap (λ (xs : List Expression). e ∷ xs) b.expressions-are;
+        trees_are = ap (λ (ts : Forest). and tree ts) b.trees_are;
+        expressions_are = ap (λ (xs : List Expression). e ∷ xs) b.expressions_are;
         stack = b.stack ∙ ap (λ (st : List Entry). stacked b.entries st) a.stack;
         within = b.within;
       }
@@ -77,11 +77,11 @@ module _ (db : Database) (p : ℕ) (facts : Facts db) (there : p < length db.sta
 
   nothing_run : (m : Memory) → Within vars m → AfterAll vars empty [] m m
   unfolding forest stacked
-  nothing_run m w = record { entries = []; trees-are = refl; expressions-are = refl; stack = refl; within = w }
+  nothing_run m w = record { entries = []; trees_are = refl; expressions_are = refl; stack = refl; within = w }
 
-  kind-high : (a : ℕ) → ((statement_of db a).kind ≡ 4) ⊎ ((statement_of db a).kind ≡ 5) → 4 ≤ (statement_of db a).kind
-  kind-high a (inl k) = omega arith
-  kind-high a (inr k) = omega arith
+  kind_high : (a : ℕ) → ((statement_of db a).kind ≡ 4) ⊎ ((statement_of db a).kind ≡ 5) → 4 ≤ (statement_of db a).kind
+  kind_high a (inl k) = omega arith
+  kind_high a (inr k) = omega arith
 
   node-runs : (a : ℕ) (frame : Frame) (τ : Substitution) (trees : Forest) → MayApply db p a frame
       → ((q : ℕ × ℕ) → q ∈ frame.pairs → Keeps (ground db p) τ q) → (m m' : Memory)
@@ -91,13 +91,13 @@ module _ (db : Database) (p : ℕ) (facts : Facts db) (there : p < length db.sta
   node-runs a frame τ trees may kept m m' all =
       let as-frame : frame ≡ frame_of db a = may.is in
       let listed : map (λ (x : Proved). x.expression) all.entries ≡ map (under (is_variable db) τ) (map (expression_of db) (statement_of db a).hyps) =
-      all.expressions-are ∙ ap (λ (f : Frame). map (under (is_variable db) τ) f.hypotheses) as-frame in
+      all.expressions_are ∙ ap (λ (f : Frame). map (under (is_variable db) τ) f.hypotheses) as-frame in
       let pairs-kept : (q : ℕ × ℕ) → q ∈ frame_pairs db (statement_of db a) → Keeps (ground db p) τ q = rw as-frame at kept in
       bind-comes
-      (node-step db p facts there room vars few a may.before (kind-high a may.kind) τ pairs-kept all.entries
+      (node-step db p facts there room vars few a may.before (kind_high a may.kind) τ pairs-kept all.entries
       (matched-of db τ (statement_of db a).hyps all.entries listed)
       (applied-nameable db p a may) (supposes-no _ may.kind) m' m.stack all.within all.stack)
-      (λ m'' r. comes (record { stack = rw (as-frame, ← all.trees-are) r.0; within = r.1 }))
+      (λ m'' r. comes (record { stack = rw (as-frame, ← all.trees_are) r.0; within = r.1 }))
 
   mutual
     unfolding post_order ground run_all

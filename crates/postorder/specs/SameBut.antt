@@ -20,8 +20,8 @@ pub record SameStatement (a b : Statement) : Type 0 where
 -- the second database is the first with this text as the proof of statement p
 pub record SameBut (db db' : Database) (p : ℕ) (text : List ℕ) : Type 0 where
   pub symbol-count : length db'.symbols ≡ length db.symbols
-  pub statement-count : length db'.statements ≡ length db.statements
+  pub statement_count : length db'.statements ≡ length db.statements
   pub symbol : (s : ℕ) → SameSymbol (symbol_of db s) (symbol_of db' s)
   pub statement : (s : ℕ) → SameStatement (statement_of db s) (statement_of db' s)
-  pub text-is : (statement_of db' p).text ≡ text
-  pub text-kept : (s : ℕ) → (s ≡ p → ⊥) → (statement_of db' s).text ≡ (statement_of db s).text
+  pub text_is : (statement_of db' p).text ≡ text
+  pub text_kept : (s : ℕ) → (s ≡ p → ⊥) → (statement_of db' s).text ≡ (statement_of db s).text

@@ -110,7 +110,7 @@ module _ {e : Env} {t : Tables} (b : Blank e t) {at : ℕ} (at-is : at ≡ get_o
     inside v i =
         let facts = good-facts e.file b.filed.good in
         let st = facts.statement e.asked b.asked in
-        let below = members-below (length (database e.file).symbols) _ (λ q j. ((st.pair-first q j).defined, (st.pair-second q j).defined)) v i in
+        let below = members-below (length (database e.file).symbols) _ (λ q j. ((st.pair_first q j).defined, (st.pair_second q j).defined)) v i in
         let large = b.numbers.sized in
         let same = begins.sized in
         omega arith
@@ -118,7 +118,7 @@ module _ {e : Env} {t : Tables} (b : Blank e t) {at : ℕ} (at-is : at ≡ get_o
     pub running-start : {table' : List ℕ} → Fills numbers' (statement_at e.file at).pairs e.table table' → Running (with_table e table') (with_numbers t numbers') c
     running-start {table'} fills =
         let w = begun in
-        let few = w.2.variables-few in
+        let few = w.2.variables_few in
         let numbered = begins.numbered e.symbols e.asked c b.filed (there b.filed b.asked at-is) b.numbers refl in
         let count = numbered.counts in
         let pairs-are = ap (λ (st : Statement). st.pairs) (sym (located-statement (there b.filed b.asked at-is))) in
@@ -133,7 +133,7 @@ module _ {e : Env} {t : Tables} (b : Blank e t) {at : ℕ} (at-is : at ≡ get_o
                       known = members-first (database e.file) e.asked;
                     };
                 small = b.small;
-                text-few = b.text-few;
+                text_few = b.text_few;
               };
           sized = record { seats = b.sized.seats; froms = b.sized.froms; tos = b.sized.tos; sets = b.sized.sets; ranged = ranged-more (omega arith) b.sized.ranged };
           memory = w.0;

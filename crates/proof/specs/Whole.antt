@@ -30,7 +30,7 @@ pub record RunsText (e : Env) (t : Tables) (tree : List ℕ) (c : Counts) (answe
 pub record Blank (e : Env) (t : Tables) : Type 0 where
   pub filed : Filed e.file e.symbols e.statements
   pub asked : e.asked < length (database e.file).statements
-  pub text-few : length e.text ≤ 65536
+  pub text_few : length e.text ≤ 65536
   pub small : e.limits.pool ≤ 65536
   pub numbers : Unnumbered e.file t.numbers
   pub table : Cleared e.table

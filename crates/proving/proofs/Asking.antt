@@ -53,7 +53,7 @@ module _ {f syms stmts : List ℕ} (w : Filed f syms stmts) (p : ℕ) where
     pub next_small : next_at f at < 4294967296
     next_small =
         let facts = good-file-facts f w.good in
-        let within = facts.statement-within p inside in
+        let within = facts.statement_within p inside in
         let small = facts.size in
         let o : at ≡ (statement_of (database f) p).at = is ∙ (filed-located w p inside).offset in
         let same : next_at f at ≡ next_at f (statement_of (database f) p).at = ap (next_at f) o in
@@ -68,21 +68,21 @@ module _ {f syms stmts : List ℕ} (w : Filed f syms stmts) (p : ℕ) where
     other-says room e other = says_same (sym (no_proof room (λ five. other (kind-is e ∙ five)))) not-provable
 
     module _ {text : List ℕ} (has : text ≡ (statement_at f at).text) where
-      text-is : text ≡ (statement_of (database f) p).text
-      text-is = has ∙ ap (λ (st : Statement). st.text) statement-is
+      text_is : text ≡ (statement_of (database f) p).text
+      text_is = has ∙ ap (λ (st : Statement). st.text) statement-is
 
       -- statement p is a $p
       module _ {k : ℕ} (e : k ≡ (statement_at f at).kind) (five : k ≡ 5) where
-        pub text-few : length text ≤ 65536
-        text-few =
-            let size = ((good-facts f w.good).statement p inside).text-size (sym (kind-is e) ∙ five) in
-            rw (sym text-is) at size
+        pub text_few : length text ≤ 65536
+        text_few =
+            let size = ((good-facts f w.good).statement p inside).text_size (sym (kind-is e) ∙ five) in
+            rw (sym text_is) at size
 
         -- the answer is that of the run
         pub proof-run : (room : Room) → ended (run (database f) p (limited room) text) ≡ answer_good (database f) p room
         unfolding answer_good
         proof-run room =
-            ap (λ (x : List ℕ). ended (run (database f) p (limited room) x)) text-is ∙ pick_first _ (equal-yes (sym (kind-is e) ∙ five)) refl
+            ap (λ (x : List ℕ). ended (run (database f) p (limited room) x)) text_is ∙ pick_first _ (equal-yes (sym (kind-is e) ∙ five)) refl
 
         pub proof-answers : {t : Told} (room : Room) → Says (ended (run (database f) p (limited room) text)) t
             → Says (answer_good (database f) p room) t

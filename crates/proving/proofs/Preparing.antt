@@ -46,28 +46,28 @@ module _ (limits : Limits) (pool stack places : ℕ) (is : room_of limits ≡ li
   unfolding limited room_lent
   pool-limit = ap (λ (r : Room). r.pool) is
 
-  stack-limit : limits.stack ≡ min (stack / 10) 1024
+  stack_limit : limits.stack ≡ min (stack / 10) 1024
   unfolding limited room_lent
-  stack-limit = ap (λ (r : Room). r.stack) is
+  stack_limit = ap (λ (r : Room). r.stack) is
 
-  places-limit : limits.places ≡ min (places / 10) 4096
+  places_limit : limits.places ≡ min (places / 10) 4096
   unfolding limited room_lent
-  places-limit = ap (λ (r : Room). r.places) is
+  places_limit = ap (λ (r : Room). r.places) is
 
 roomy : (limits : Limits) (pool stack places locals tree : List ℕ) → 12288 ≤ length locals → length tree ≤ 131072
     → room_of limits ≡ limited (room_lent (length pool) (length stack) (length places)) → Roomy limits pool stack places locals tree
 roomy limits pool stack places locals tree size few is =
     let p = pool-limit limits _ _ _ is in
-    let s = stack-limit limits _ _ _ is in
-    let q = places-limit limits _ _ _ is in
+    let s = stack_limit limits _ _ _ is in
+    let q = places_limit limits _ _ _ is in
     record {
-      pool-sized = omega arith;
-      stack-limit = omega arith;
-      stack-sized = omega arith;
-      places-limit = omega arith;
-      places-sized = omega arith;
-      locals-sized = size;
-      tree-limit = few;
+      pool_sized = omega arith;
+      stack_limit = omega arith;
+      stack_sized = omega arith;
+      places_limit = omega arith;
+      places_sized = omega arith;
+      locals_sized = size;
+      tree_limit = few;
     }
 
 -- the index has as many symbols as the file
@@ -82,13 +82,13 @@ pub cut : (syms : List ℕ) {table seats froms tos sets numbers locals froms' to
     → length tos' ≡ length syms → length sets' ≡ 4 * length syms → length numbers' ≡ length syms → Cut (length syms) table seats froms' tos' sets' numbers' locals
 cut syms o a b d e =
     record {
-      table-size = o.table-size;
-      seats-size = o.seats-size;
-      froms-size = a;
-      tos-size = b;
-      sets-size = d;
-      numbers-size = e;
-      locals-size = o.locals-size;
+      table_size = o.table_size;
+      seats_size = o.seats_size;
+      froms_size = a;
+      tos_size = b;
+      sets_size = d;
+      numbers_size = e;
+      locals_size = o.locals_size;
     }
 
 module _ (f syms stmts text table seats froms tos sets numbers pool stack places locals tree : List ℕ) (p : ℕ) {limits : Limits}
@@ -102,16 +102,16 @@ module _ (f syms stmts text table seats froms tos sets numbers pool stack places
       record {
         filed = w;
         asked = omega (arith, filed-length w, a.0);
-        text-few = a.1;
+        text_few = a.1;
         small = omega (arith, pool-limit limits _ _ _ is);
-        numbers = cleared-numbers numbers en f (o.numbers-size ∙ width);
-        table = cleared-pairs table et o.table-size;
-        roomy = roomy limits pool stack places locals tree o.locals-size few is;
+        numbers = cleared-numbers numbers en f (o.numbers_size ∙ width);
+        table = cleared-pairs table et o.table_size;
+        roomy = roomy limits pool stack places locals tree o.locals_size few is;
         sized = record {
-          seats = o.seats-size;
-          froms = cleared-size froms ef ∙ (o.froms-size ∙ width);
-          tos = cleared-size tos eo ∙ (o.tos-size ∙ width);
-          sets = o.sets-size ∙ ap (λ (k : ℕ). 4 * k) width;
+          seats = o.seats_size;
+          froms = cleared-size froms ef ∙ (o.froms_size ∙ width);
+          tos = cleared-size tos eo ∙ (o.tos_size ∙ width);
+          sets = o.sets_size ∙ ap (λ (k : ℕ). 4 * k) width;
           ranged = cleared-ranges froms tos ef eo;
         };
       }

@@ -54,8 +54,8 @@ module _ {stack : List ℕ} {base : ℕ} {seats tree : List ℕ} where
         same = λ i l. refl;
         few = omega arith;
         sooner = λ l. absurd (omega arith);
-        nodes-is = λ l. absurd (omega arith);
-        word-is = λ l. absurd (omega arith);
+        nodes_is = λ l. absurd (omega arith);
+        word_is = λ l. absurd (omega arith);
         heads = λ l. absurd (omega arith);
         puts = λ l j m. absurd (omega arith);
       }
@@ -67,8 +67,8 @@ module _ {stack : List ℕ} {base : ℕ} {seats tree : List ℕ} where
         same = λ i l. refl;
         few = omega arith;
         sooner = λ l. below;
-        nodes-is = λ l. refl;
-        word-is = λ l. refl;
+        nodes_is = λ l. refl;
+        word_is = λ l. refl;
         heads = λ l. absurd (omega arith);
         puts = λ l j m. absurd (omega arith);
       }
@@ -81,8 +81,8 @@ module _ {stack : List ℕ} {base : ℕ} {seats tree : List ℕ} where
         same = λ i l. p.same i (omega arith) ∙ get_or-set_other tree used i at 0 (λ e. absurd (omega arith));
         few = omega arith;
         sooner = λ l. omega arith;
-        nodes-is = λ l. refl;
-        word-is = λ l. refl;
+        nodes_is = λ l. refl;
+        word_is = λ l. refl;
         heads = λ l. p.same used (omega arith) ∙ get_or-set_same tree used at 0 (omega arith);
         puts = λ l j m. p.puts j m;
       }

@@ -20,7 +20,7 @@ pub record Notes (at : ℕ) (stack : List ℕ) (base : ℕ) (seats : List ℕ) (
   pub same : SameUpTo tree tree' used
   pub few : noted.nodes ≤ used + 1 + n
   pub sooner : noted.nodes ≤ length tree → used ≤ length tree
-  pub nodes-is : noted.nodes ≤ length tree → noted.nodes ≡ used + 1 + n
-  pub word-is : noted.nodes ≤ length tree → noted.word ≡ 2 * used + 1
+  pub nodes_is : noted.nodes ≤ length tree → noted.nodes ≡ used + 1 + n
+  pub word_is : noted.nodes ≤ length tree → noted.word ≡ 2 * used + 1
   pub heads : noted.nodes ≤ length tree → get_or tree' used 0 ≡ at
   pub puts : noted.nodes ≤ length tree → (j : ℕ) → j < n → get_or tree' (used + 1 + j) 0 ≡ seat_node stack base seats j

@@ -79,7 +79,7 @@ module _ (f : List ℕ) (good : GoodFile f) where
   label-few p = by (below p (length (database f).statements)) refl
     where
       by : (t : Bool) → below p (length (database f).statements) ≡ t → length (statement_of (database f) p).label ≤ 64
-      by true t = ((good-facts f good).statement p (below_true _ _ t)).label-size
+      by true t = ((good-facts f good).statement p (below_true _ _ t)).label_size
       by false t =
           let past = below_false _ _ t in
           let z : (statement_of (database f) p).label ≡ [] = ap (λ (st : Statement). st.label) (get_or-eq_default (database f).statements _ past) in
@@ -94,7 +94,7 @@ module _ (f : List ℕ) (good : GoodFile f) where
 
   pub answers-few : length (provable (database f)) ≤ 4096
   unfolding provable
-  answers-few = let s = (good-facts f good).statement-count in let l = provable-few (database f) (length (database f).statements) 0 in omega arith
+  answers-few = let s = (good-facts f good).statement_count in let l = provable-few (database f) (length (database f).statements) 0 in omega arith
 
   checked-few : length (checked_text f) ≤ 524317
   unfolding checked_text proof_lines
@@ -109,9 +109,9 @@ module _ (f : List ℕ) (good : GoodFile f) where
 refused-few : (n p : ℕ) → length (refused_line n p) ≤ 524317
 refused-few n p = let l = line-few (114 ∷ 101 ∷ 102 ∷ 117 ∷ 115 ∷ 101 ∷ 100 ∷ 32 ∷ []) n p in omega arith
 
-text-few : (f : List ℕ) → length (text_of (verdict f) f) ≤ 524317
+text_few : (f : List ℕ) → length (text_of (verdict f) f) ≤ 524317
 unfolding text_of
-text-few f = by (verdict f) refl
+text_few f = by (verdict f) refl
   where
     by : (v : Verdict) → verdict f ≡ v → length (text_of v f) ≤ 524317
     by (Good a b) e = checked-few f (good-answer f a b e).0
@@ -123,4 +123,4 @@ output-few input = by (below 65536 (length input))
   where
     by : (t : Bool) → length (pick t (refused_line 2 0) (text_of (verdict input) input)) ≤ 524317
     by true = refused-few 2 0
-    by false = text-few input
+    by false = text_few input

@@ -24,13 +24,13 @@ module _ (f : List ℕ) (p : ℕ) {word : ℕ} (is : word ≡ answer_word f grea
   word-packed = is
 
   number_read : number_in word ≡ number (answer f p greatest)
-  number_read = let s = answer-small f p greatest in ap number_in word-packed ∙ number-back _ _ _ s.number_small s.place-small
+  number_read = let s = answer-small f p greatest in ap number_in word-packed ∙ number-back _ _ _ s.number_small s.place_small
 
   place_read : place_in word ≡ place (answer f p greatest)
-  place_read = let s = answer-small f p greatest in ap place_in word-packed ∙ place-back _ _ _ s.number_small s.place-small
+  place_read = let s = answer-small f p greatest in ap place_in word-packed ∙ place-back _ _ _ s.number_small s.place_small
 
   steps-read : steps_in word ≡ steps (answer f p greatest)
-  steps-read = let s = answer-small f p greatest in ap steps_in word-packed ∙ steps_back _ _ _ s.number_small s.place-small
+  steps-read = let s = answer-small f p greatest in ap steps_in word-packed ∙ steps_back _ _ _ s.number_small s.place_small
 
 module _ {f stmts : List ℕ} (w : Listed f stmts) (p : ℕ) (there : p < length stmts) where
   pub statement-is : {at : ℕ} → at ≡ get_or stmts p 0 → statement_at f at ≡ statement_of (database f) p

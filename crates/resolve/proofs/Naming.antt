@@ -132,12 +132,12 @@ module _ (db : Database) (label : List ℕ) where
 module _ (db : Database) (facts : Facts db) (label : List ℕ) where
   -- a listed hypothesis is a statement
   listed-inside : (p h : ℕ) → p < length db.statements → h ∈ (statement_of db p).hyps → h < length db.statements
-  listed-inside p h l m = let e = ((facts.statement p l).hyps-active h m).earlier in omega arith
+  listed-inside p h l m = let e = ((facts.statement p l).hyps_active h m).earlier in omega arith
 
   -- statement s has the label
   module _ (s : ℕ) (there : s < length db.statements) (is : (statement_of db s).label ≡ label) where
     only : (k : ℕ) → k < length db.statements → (statement_of db k).label ≡ label → k ≡ s
-    only k l e = facts.labels-differ k s l there (e ∙ sym is)
+    only k l e = facts.labels_differ k s l there (e ∙ sym is)
 
     pub sought-it : is_essential (statement_of db s) ≡ false → sought db label ≡ some s
     sought-it other =

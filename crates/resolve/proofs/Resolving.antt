@@ -167,7 +167,7 @@ module _ (f stmts : List ℕ) (p : ℕ) (s : StatementNo) where
                 frame = λ a q.
                     let same-one : a ≡ s = cc in
                     rw same-one
-                    (record { earlier = before; kind = asserts-kind _ facts.kind-low facts.kind-high (supposes-is w n.there h) });
+                    (record { earlier = before; kind = asserts-kind _ facts.kind_low facts.kind_high (supposes-is w n.there h) });
               };
           nowhere = λ k q. let z : ◌≡◌ {A = ℕ} 0 1 = cc in absurd (omega arith);
         }

@@ -59,7 +59,7 @@ pub record Checked (e : Env) : Type 0 where
   pub asked : e.asked < length (database e.file).statements
   pub under : Under e.file e.asked e.table
   pub small : e.limits.pool ≤ 65536
-  pub text-few : length e.text ≤ 65536
+  pub text_few : length e.text ≤ 65536
 
 -- how many symbols the file has
 abbrev pub width_of : Env → ℕ

@@ -59,27 +59,27 @@ unfolding with_steps
 restep n s =
     record {
       numbered = s.numbered;
-      variables-few = s.variables-few;
+      variables_few = s.variables_few;
       begun = s.begun;
-      mandatory-known = s.mandatory-known;
-      numbers-sized = s.numbers-sized;
+      mandatory_known = s.mandatory_known;
+      numbers_sized = s.numbers_sized;
       pool = s.pool;
-      pool-few = s.pool-few;
-      pool-sized = s.pool-sized;
+      pool_few = s.pool_few;
+      pool_sized = s.pool_sized;
       stack = s.stack;
-      stack-few = s.stack-few;
-      stack-limit = s.stack-limit;
-      stack-sized = s.stack-sized;
+      stack_few = s.stack_few;
+      stack_limit = s.stack_limit;
+      stack_sized = s.stack_sized;
       places = s.places;
       placed = s.placed;
-      places-few = s.places-few;
-      places-limit = s.places-limit;
-      places-sized = s.places-sized;
+      places_few = s.places_few;
+      places_limit = s.places_limit;
+      places_sized = s.places_sized;
       locals = s.locals;
-      locals-few = s.locals-few;
-      locals-sized = s.locals-sized;
-      tree-limit = s.tree-limit;
-      nodes-few = let f = s.nodes-few in omega arith;
+      locals_few = s.locals_few;
+      locals_sized = s.locals_sized;
+      tree_limit = s.tree_limit;
+      nodes_few = let f = s.nodes_few in omega arith;
       derivations = s.derivations;
     }
 

@@ -54,9 +54,9 @@ module _ {f syms stmts : List ℕ} {p : ℕ} {text table : List ℕ} {limits : L
             keeps-go
             (record {
               seats = let q = z.seats in omega arith;
-              froms = runs.froms-sized ∙ z.froms;
-              tos = runs.tos-sized ∙ z.tos;
-              sets = runs.sets-sized ∙ z.sets;
+              froms = runs.froms_sized ∙ z.froms;
+              tos = runs.tos_sized ∙ z.tos;
+              sets = runs.sets_sized ∙ z.sets;
               ranged = ranged-more (runs.grows c' refl) runs.ranged;
             })
             (letters (omega arith)) (omega arith);

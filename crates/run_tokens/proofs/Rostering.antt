@@ -59,7 +59,7 @@ module _ {e : Env} {t : Tables} {c : Counts} (r : Running e t c) where
   pub roster-there : (Bounded e.limits c × (e.limits.pool ≤ length t.pool)) × ((10 * e.limits.places ≤ length t.places) × (e.limits.places ≤ 4096))
   roster-there =
       let s = r.shown in
-      ((record { variables = s.variables-few; pool = s.pool-few; places = s.places-few }, s.pool-sized), (s.places-sized, s.places-limit))
+      ((record { variables = s.variables_few; pool = s.pool_few; places = s.places_few }, s.pool_sized), (s.places_sized, s.places_limit))
 
   sized-more : {used : ℕ} (numbers pool places : List ℕ) → c.used ≤ used → Sized (width_of e) (with_roster t numbers pool places) used
   sized-more numbers pool places more =
@@ -79,12 +79,12 @@ module _ {e : Env} {t : Tables} {c : Counts} (r : Running e t c) where
       }
 
   -- a roster label
-  abbrev named-place : List ℕ → Memory → Result Memory
-  named-place label m = prepare_roster (database e.file) e.asked (room_of e.limits) m label
+  abbrev named_place : List ℕ → Memory → Result Memory
+  named_place label m = prepare_roster (database e.file) e.asked (room_of e.limits) m label
 
   prepares : {label numbers' pool' places' : List ℕ} {outcome : Outcome}
       → PreparesRoster e.file e.symbols e.statements e.asked label t.numbers t.pool t.places c e.limits numbers' pool' places' outcome
-      → Proceeds e t (with_roster t numbers' pool' places') c (named-place label) outcome
+      → Proceeds e t (with_roster t numbers' pool' places') c (named_place label) outcome
   prepares takes =
       let k = r.checked in
       record {

@@ -76,7 +76,7 @@ module _ {e : Env} {t : Tables} {c : Counts} (r : Running e t c) where
         let k = r.checked in
         let z = r.sized in
         record {
-          sized = λ c' q. sized_on _ _ _ _ seats runs.froms-sized runs.tos-sized runs.sets-sized runs.ranged (runs.grows c' q);
+          sized = λ c' q. sized_on _ _ _ _ seats runs.froms_sized runs.tos_sized runs.sets_sized runs.ranged (runs.grows c' q);
           follows = λ m shown.
               ends_by (named m is shown) refl
               (runs.follows e.asked t.numbers t.locals m k.filed k.asked k.under (let x = z.froms in omega arith) (let x = z.tos in omega arith) (let x = z.sets in omega arith) shown);
@@ -92,7 +92,7 @@ module _ {e : Env} {t : Tables} {c : Counts} (r : Running e t c) where
         let k = r.checked in
         let z = r.sized in
         record {
-          sized = λ c' q. sized_on _ _ _ _ seats runs.froms-sized runs.tos-sized runs.sets-sized runs.ranged (runs.grows c' q);
+          sized = λ c' q. sized_on _ _ _ _ seats runs.froms_sized runs.tos_sized runs.sets_sized runs.ranged (runs.grows c' q);
           follows = λ m shown.
               ends_by (named m is shown) refl
               (runs.follows e.asked t.numbers t.places t.locals m k.filed k.asked ((prep.sensible e.symbols k.filed k.asked).frame a is) k.under
@@ -154,7 +154,7 @@ given-it : {text : List ℕ} {part : Option (List ℕ)} {span : Span} {stack loc
     → Ends (Shown (bench_of e) (lent_of (with_labels t places' locals'))) (give_local (room_of e.limits) m part) answer
 given-it {text} {span = span} stands there gives-it e t m lends shown =
     rw (← stands.is, marked-part text span.tag span.end there)
-    (gives-it.follows (bench_of e) (lent_of t) m lends.text-is lends.limit_is lends.stack_is lends.locals-is lends.places_is shown)
+    (gives-it.follows (bench_of e) (lent_of t) m lends.text_is lends.limit_is lends.stack_is lends.locals_is lends.places_is shown)
 
 module _ {text stack places locals : List ℕ} {from to : ℕ} {c : Counts} {limit done : ℕ} {span : Span} (stands : StandsFor text (split (range from to text)).local span) where
   -- no local label
@@ -165,7 +165,7 @@ module _ {text stack places locals : List ℕ} {from to : ℕ} {c : Counts} {lim
       record {
         keeps = λ e t m steps few lends sized shown. keeps-go (relabelled places locals sized) normal few;
         follows = λ e t m next lends n shown.
-            rw (← none_is, ← lends.places_is, ← lends.locals-is) (settled-go m.steps next Normal refl shown n);
+            rw (← none_is, ← lends.places_is, ← lends.locals_is) (settled-go m.steps next Normal refl shown n);
       }
 
   -- a local label
@@ -196,9 +196,9 @@ module _ {e : Env} {t : Tables} {c : Counts} (r : Running e t c) where
       × ((c.locals ≤ c.places) × (c.places ≤ e.limits.places))
   label-there =
       let s = r.shown in
-      let a = s.stack-few in
-      let b = s.stack-limit in
-      (((s.places-sized, s.places-limit), (s.locals-sized, omega arith)), (s.locals-few, s.places-few))
+      let a = s.stack_few in
+      let b = s.stack_limit in
+      (((s.places_sized, s.places_limit), (s.locals_sized, omega arith)), (s.locals_few, s.places_few))
 
   module _ {from to steps : ℕ} where
     -- `?`
@@ -224,7 +224,7 @@ module _ {e : Env} {t : Tables} {c : Counts} (r : Running e t c) where
           → ReadsNormal e t (with_labels t' places' locals') c from to steps answer
       unfolding machine.on_normal machine.on_parts unless normal_step machine.settle
       normal-ran {c'} is labels =
-          let lends : Lends e t' e.text t'.stack t'.places t'.locals e.limits.places = record { text-is = refl; limit_is = refl; stack_is = refl; places_is = refl; locals-is = refl } in
+          let lends : Lends e t' e.text t'.stack t'.places t'.locals e.limits.places = record { text_is = refl; limit_is = refl; stack_is = refl; places_is = refl; locals_is = refl } in
           record {
             keeps =
                 let w = ends-go (rw is at (ran.follows r.memory r.shown)) in

@@ -25,11 +25,11 @@ normal_step db p room token m = bind (prepare_normal db p room m token) (run_rea
 
 -- the text, the limit of places and the tables that a local label needs are those of the run
 pub record Lends (e : Env) (t : Tables) (text stack places locals : List ℕ) (limit : ℕ) : Type 0 where
-  pub text-is : e.text ≡ text
+  pub text_is : e.text ≡ text
   pub limit_is : e.limits.places ≡ limit
   pub stack_is : t.stack ≡ stack
   pub places_is : t.places ≡ places
-  pub locals-is : t.locals ≡ locals
+  pub locals_is : t.locals ≡ locals
 
 -- the tables with these places and these local labels
 abbrev pub with_labels : Tables → List ℕ → List ℕ → Tables

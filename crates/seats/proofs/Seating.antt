@@ -14,7 +14,7 @@ use Rattle.machine.specs.Apply.{unmarked_first, unmarked, arranged}
 use Rattle.memory.specs.Table.{word}
 use Rattle.memory.specs.Shown.{Along, ends, next}
 use Rattle.seats.specs.declared.arrange.Taken.{Taken}
-use Rattle.seats.specs.Marks.{Takes, by-mark, in_order, none_left, TakesSeat}
+use Rattle.seats.specs.Marks.{Takes, by_mark, in_order, none_left, TakesSeat}
 use Rattle.seats.specs.Seats.{MarkShown, Nth, first, later, SeatShown, Fills, InOrder}
 use Rattle.seats.proofs.Marking.{mark-none, mark-some, marked-found, marked-nowhere}
 use Rattle.seats.proofs.Counting.{arranged-marked, arranged-next, arranged-out}
@@ -156,7 +156,7 @@ module _ {labels : List (List ℕ)} {text stack : List ℕ} {base : ℕ} {es : L
     -- one more seat
     pub filling-more : {label : List ℕ} {to : ℕ} {t : Taken} → base ≤ u → to ≡ base + length es → Here labels j label → j < length labels
         → Takes text stack base to u label t → base ≤ t.row → t.row < to → Filling labels text stack base (j + 1) t.next es (set seats j (t.row - base))
-    filling-more {label} {to} {t} low size here inside (by-mark m h e) at_least_lem at_most =
+    filling-more {label} {to} {t} low size here inside (by_mark m h e) at_least_lem at_most =
         let found = marked-found label all at_least_lem (omega arith) m.passed (m.found h) in
         rw e
         (filling-seat (t.row - base) u found.entry f.left found.nth
@@ -204,7 +204,7 @@ module _ {labels : List (List ℕ)} {text stack : List ℕ} {base count : ℕ} w
   fill_more k i f h room here takes this that =
       record {
         low = takes.next_low;
-        high = takes.next-high;
+        high = takes.next_high;
         fills = λ es all size listed enough.
             rw (this, that) (filling-more all (f.fills es all size listed enough) room f.low (ap (λ (n : ℕ). base + n) (sym size)) (here (omega arith)) (omega arith)
             takes.takes takes.low takes.high);

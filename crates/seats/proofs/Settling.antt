@@ -57,7 +57,7 @@ labels-filed {f} {stmts = stmts} {a} {at} filed loc =
     ap (λ (st : Statement). map (label_at f stmts) st.hyps) (sym (located-statement loc))
     ∙ map_same (label_at f stmts) (label_of (database f)) (statement_of (database f) a).hyps
     (λ h m.
-    let e = (((good-facts f filed.good).statement a loc.there).hyps-active h m).earlier in
+    let e = (((good-facts f filed.good).statement a loc.there).hyps_active h m).earlier in
     label-filed h filed (let t = loc.there in omega arith))
 
 -- what is said of the labels that are read is said of the assertion

@@ -51,7 +51,7 @@ pub data Checks (labels : List (List ℕ)) (text stack : List ℕ) (base k : ℕ
 -- which row takes the seat of the hypothesis with this label: the one marked so, else the first without a mark from `next` on (there is one, since
 -- entries and hypotheses are as many), and from which row on the next one is sought
 pub data Takes (text stack : List ℕ) (base to next : ℕ) (label : List ℕ) (t : Taken) : Type 0 where
-  by-mark : FirstMarked text stack label base to t.row → t.row < to → t.next ≡ next → Takes text stack base to next label t
+  by_mark : FirstMarked text stack label base to t.row → t.row < to → t.next ≡ next → Takes text stack base to next label t
   in_order : FirstMarked text stack label base to to → FirstUnmarked stack next to t.row → t.row < to → t.next ≡ t.row + 1
       → Takes text stack base to next label t
   none_left : FirstMarked text stack label base to to → FirstUnmarked stack next to to → Takes text stack base to next label t
@@ -61,5 +61,5 @@ pub record TakesSeat (text stack : List ℕ) (base to next : ℕ) (label : List 
   pub low : base ≤ t.row
   pub high : t.row < to
   pub next_low : base ≤ t.next
-  pub next-high : t.next ≤ to
+  pub next_high : t.next ≤ to
   pub takes : Takes text stack base to next label t

@@ -33,7 +33,7 @@ located-small : {f : List ℕ} {a at : ℕ} → GoodFile f → Located f a at �
 unfolding next_at
 located-small {f} {a} good loc =
     let facts = good-file-facts f good in
-    let within = facts.statement-within a loc.there in
+    let within = facts.statement_within a loc.there in
     let few = facts.size in
     let is = loc.offset in
     omega arith

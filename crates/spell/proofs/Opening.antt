@@ -33,7 +33,7 @@ located-small : {f : List ℕ} {a at : ℕ} → GoodFile f → Located f a at �
 unfolding next_at as_offset
 located-small {f} {a} {at} good loc =
     let facts = good-file-facts f good in
-    let within = facts.statement-within a loc.there in
+    let within = facts.statement_within a loc.there in
     let size = facts.size in
     let small : at < 4294967296 = omega (arith, loc.offset) in
     sym (pick_first 0 (below-yes small) refl)

@@ -10,7 +10,7 @@ use Rattle.frames.specs.Database.{database, GoodFile}
 use Rattle.facts.proofs.GoodFacts.{good-facts}
 use Rattle.machine.specs.Apply.{label_of}
 use Rattle.postorder.specs.LongForm.{post_order, post_orders, following}
-use Rattle.postorder.proofs.OneText.{label-some}
+use Rattle.postorder.proofs.OneText.{label_some}
 use Rattle.packed.specs.Lists.{Located}
 use Rattle.packed.specs.Pool.{written}
 use Rattle.packed.proofs.Written.{written-before}
@@ -94,5 +94,5 @@ module _ {f entries : List ℕ} (good : GoodFile f) {kept : Applications} {n : �
       ap (following db) (g ∙ ap (λ (s : List ℕ). front ++ s) o.order) ∙ following-append db front _
       ∙ ap (λ (s : List ℕ). following db front ++ s) (following-last db (post_orders o.trees) o.root) in
       let size = simp length-append at (ap length all) in
-      let some : 1 ≤ length (label_of db o.root) = label-some db (good-facts f good) o.root (record { there = o.located.there }) in
+      let some : 1 ≤ length (label_of db o.root) = label_some db (good-facts f good) o.root (record { there = o.located.there }) in
       omega arith

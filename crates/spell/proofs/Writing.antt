@@ -45,8 +45,8 @@ no_bytes db order e = rw e refl
 
 -- the loop's invariant
 pub record Going (f entries first : List ℕ) (start size : ℕ) (output table out : List ℕ) (depth end : ℕ) : Type 0 where
-  pub table-sized : length table ≡ length first
-  pub output-sized : length out ≡ length output
+  pub table_sized : length table ≡ length first
+  pub output_sized : length out ≡ length output
   pub fits : size ≤ length out
   pub within : depth ≤ length table
   pub room : end ≤ size + 1
@@ -58,8 +58,8 @@ pub going-first : (f entries first : List ℕ) (start size : ℕ) (output : List
     → Going f entries first start size output first output start end
 going-first f entries first start size output end l g e =
     record {
-      table-sized = refl;
-      output-sized = refl;
+      table_sized = refl;
+      output_sized = refl;
       fits = g;
       within = l;
       room = omega arith;
@@ -74,15 +74,15 @@ module _ {f entries first : List ℕ} {start size : ℕ} {output table out : Lis
   going_more {left} {word = word} d top-word Label-is same same_out puts pushes =
       let within = pushes-within pushes (omega (arith, going.within)) in
       record {
-        table-sized = same ∙ going.table-sized;
-        output-sized = same_out ∙ going.output-sized;
+        table_sized = same ∙ going.table_sized;
+        output_sized = same_out ∙ going.output_sized;
         fits = omega (arith, going.fits);
         within = omega arith;
         room = omega (arith, puts.begins, going.room);
         past = puts-past size puts going.room going.fits ∙ going.past;
         remains = λ kept n whole good r small large remains.
             turned good r (going.remains kept n whole good r small large remains) d going.within (omega (arith, going.room, going.fits))
-            (omega (arith, going.room)) (omega (arith, going.table-sized)) (rw (Label-is, top-word) at puts) (rw top-word at pushes);
+            (omega (arith, going.room)) (omega (arith, going.table_sized)) (rw (Label-is, top-word) at puts) (rw top-word at pushes);
       }
 
   -- the end of the loop, where all is written

@@ -33,5 +33,5 @@ line_of (Refused why place) = refused_line (number_of why) place
 -- part stands in the buffer right after what stood before the place at, which it keeps; next is the place after it
 pub record Appended (before : List ℕ) (at : ℕ) (part after : List ℕ) (next : ℕ) : Type 0 where
   pub same : length after ≡ length before
-  pub next-is : next ≡ at + length part
+  pub next_is : next ≡ at + length part
   pub text : take next after ≡ take at before ++ part

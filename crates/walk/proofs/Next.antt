@@ -32,14 +32,14 @@ module _ {f syms stmts : List ℕ} (w : Filed f syms stmts) where
       let s = answer-small f p room in
       let e = good-answered p room in
       let n = s.number_small in
-      let q = s.place-small in
-      let m = s.steps-small in
+      let q = s.place_small in
+      let m = s.steps_small in
       (rw says.number (rw e at n), (rw says.place (rw e at q), rw says.steps (rw e at m)))
 
-  word-is : (p : ℕ) (room : Room) {t : Told} {word : ℕ} → Says (answer_good (database f) p room) t
+  word_is : (p : ℕ) (room : Room) {t : Told} {word : ℕ} → Says (answer_good (database f) p room) t
       → word ≡ packed_answer t.number t.place t.steps → word ≡ answer_word f room p
   unfolding answer_word word_of
-  word-is p room says is = rw (good-answered p room) (is ∙ rw (says.number, says.place, says.steps) refl)
+  word_is p room says is = rw (good-answered p room) (is ∙ rw (says.number, says.place, says.steps) refl)
 
   module _ {at k p : ℕ} (there : p < length stmts) (is : at ≡ get_or stmts p 0) (kind : k ≡ (statement_at f at).kind) where
     kind-is : k ≡ (statement_of (database f) p).kind
@@ -55,7 +55,7 @@ module _ {f syms stmts : List ℕ} (w : Filed f syms stmts) where
           let yes = equal-yes (sym kind-is ∙ five) in
           record {
             counts = pick_first _ yes refl;
-            lays = pick_first _ (sym (both-second yes (sym (below-yes fits)))) (ap (set answers count) (word-is p room says is));
+            lays = pick_first _ (sym (both-second yes (sym (below-yes fits)))) (ap (set answers count) (word_is p room says is));
           }
 
       -- a $p without

@@ -38,9 +38,9 @@ pub one-outcome : (f pool stack places answers : List ℕ) (x y : Outcome)
 one-outcome f pool stack places answers x y v w =
     let t : x.walked ≡ y.walked = v.answered.counts ∙ sym w.answered.counts in
     let d : x.answers ≡ y.answers = v.answered.lays ∙ sym w.answered.lays in
-    let a : x.pool ≡ y.pool = v.zeroed.pool-zero ∙ sym w.zeroed.pool-zero in
-    let b : x.stack ≡ y.stack = v.zeroed.stack-zero ∙ sym w.zeroed.stack-zero in
-    let c : x.places ≡ y.places = v.zeroed.places-zero ∙ sym w.zeroed.places-zero in
+    let a : x.pool ≡ y.pool = v.zeroed.pool_zero ∙ sym w.zeroed.pool_zero in
+    let b : x.stack ≡ y.stack = v.zeroed.stack_zero ∙ sym w.zeroed.stack_zero in
+    let c : x.places ≡ y.places = v.zeroed.places_zero ∙ sym w.zeroed.places_zero in
     let whole : outcome x.walked x.pool x.stack x.places x.answers ≡ outcome y.walked y.pool y.stack y.places y.answers = cc in
     whole
 

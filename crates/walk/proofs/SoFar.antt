@@ -151,12 +151,12 @@ module _ {f : List ℕ} {room : Room} {answers answers' : List ℕ} {i count : �
 pub record SameSizes (table₀ seats₀ froms₀ tos₀ sets₀ numbers₀ pool₀ stack₀ places₀ locals₀ table seats froms tos sets numbers pool stack places locals : List ℕ)
     : Type 0 where
   pub table_same : length table ≡ length table₀
-  pub seats-same : length seats ≡ length seats₀
-  pub froms-same : length froms ≡ length froms₀
-  pub tos-same : length tos ≡ length tos₀
+  pub seats_same : length seats ≡ length seats₀
+  pub froms_same : length froms ≡ length froms₀
+  pub tos_same : length tos ≡ length tos₀
   pub sets_same : length sets ≡ length sets₀
-  pub numbers-same : length numbers ≡ length numbers₀
-  pub pool-same : length pool ≡ length pool₀
+  pub numbers_same : length numbers ≡ length numbers₀
+  pub pool_same : length pool ≡ length pool₀
   pub stack_same : length stack ≡ length stack₀
   pub places_same : length places ≡ length places₀
   pub locals_same : length locals ≡ length locals₀
@@ -166,14 +166,14 @@ module _ {table₀ seats₀ froms₀ tos₀ sets₀ numbers₀ pool₀ stack₀ 
   pub ours_kept : Ours table₀ seats₀ froms₀ tos₀ sets₀ numbers₀ locals₀ → Ours table seats froms tos sets numbers locals
   ours_kept o =
       record {
-        table-size = z.table_same ∙ o.table-size;
-        seats-size = omega (arith, z.seats-same, o.seats-size);
-        froms-size = z.froms-same ∙ o.froms-size;
-        tos-size = z.tos-same ∙ o.tos-size;
-        sets-size = z.sets_same ∙ o.sets-size;
-        numbers-size = z.numbers-same ∙ o.numbers-size;
-        locals-size = omega (arith, z.locals_same, o.locals-size);
+        table_size = z.table_same ∙ o.table_size;
+        seats_size = omega (arith, z.seats_same, o.seats_size);
+        froms_size = z.froms_same ∙ o.froms_size;
+        tos_size = z.tos_same ∙ o.tos_size;
+        sets_size = z.sets_same ∙ o.sets_size;
+        numbers_size = z.numbers_same ∙ o.numbers_size;
+        locals_size = omega (arith, z.locals_same, o.locals_size);
       }
 
   pub room-kept : room_in pool stack places ≡ room_in pool₀ stack₀ places₀
-  room-kept = rw (z.pool-same, z.stack_same, z.places_same) refl
+  room-kept = rw (z.pool_same, z.stack_same, z.places_same) refl

@@ -7,6 +7,6 @@ pub returns : goal.returns
 returns c =
     record {
       answers = c.answer_of.ensures ∙ ap answer_of c.check.ensures.answers;
-      symbols-laid = c.check.ensures.symbols-laid;
-      statements-laid = c.check.ensures.statements-laid;
+      symbols_laid = c.check.ensures.symbols_laid;
+      statements_laid = c.check.ensures.statements_laid;
     }

@@ -9,7 +9,7 @@ pub read_text-requires : goal.read_text-requires
 read_text-requires c = record { labelled = c.requires.labelled; running = c.requires.running; low = ((beginning, refl), refl) }
 
 pub end_text-requires : goal.end_text-requires
-end_text-requires c = let is = c.in-Going.is in let few = c.requires.running.checked.text-few in record { labelled = c.requires.labelled; running = c.read_text.ensures.running _ is; low = ((c.read_text.ensures.low _ is, omega (arith, c.read_text.ensures.few _ is)), c.read_text.ensures.begun _ is) }
+end_text-requires c = let is = c.in-Going.is in let few = c.requires.running.checked.text_few in record { labelled = c.requires.labelled; running = c.read_text.ensures.running _ is; low = ((c.read_text.ensures.low _ is, omega (arith, c.read_text.ensures.few _ is)), c.read_text.ensures.begun _ is) }
 
 pub returns-in-Over : goal.returns-in-Over
 returns-in-Over c = text-over (rw c.in-Over.is at c.read_text.ensures)

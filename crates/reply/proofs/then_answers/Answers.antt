@@ -13,7 +13,7 @@ pub loop-i-init : goal.loop-i-init
 loop-i-init c = so-far-none _ _ _
 
 pub overflow_add-i : goal.overflow_add-i
-overflow_add-i c = let few = (good-facts _ c.requires.listed.good).statement-count in let l = filed-length c.requires.listed in search (rules, few, l, c.loop-i-test.true)
+overflow_add-i c = let few = (good-facts _ c.requires.listed.good).statement_count in let l = filed-length c.requires.listed in search (rules, few, l, c.loop-i-test.true)
 
 pub is_provable-requires : goal.is_provable-requires
 is_provable-requires c = (c.requires.listed, c.loop-i-test.true)

@@ -10,7 +10,7 @@ pub loop-i-init : goal.loop-i-init
 loop-i-init c = so-far-none c.requires.running c.requires.low.0.0 c.requires.low.0.1 c.requires.low.1
 
 pub on_byte-requires : goal.on_byte-requires
-on_byte-requires c = let v = c.loop-i.invariant in let f = v.running.checked.text-few in record { labelled = c.requires.labelled; running = v.running; low = ((v.low, omega (arith, v.few, v.within)), (v.begun, c.loop-i-test.true)) }
+on_byte-requires c = let v = c.loop-i.invariant in let f = v.running.checked.text_few in record { labelled = c.requires.labelled; running = v.running; low = ((v.low, omega (arith, v.few, v.within)), (v.begun, c.loop-i-test.true)) }
 
 pub shape_of-seats-in-Over : goal.shape_of-seats-in-Over
 shape_of-seats-in-Over c = c.seats-1.given ∙ c.loop-i.invariant.sizes.seats
@@ -43,7 +43,7 @@ pub returns-in-Over : goal.returns-in-Over
 returns-in-Over c = so-far-over c.loop-i.invariant c.loop-i-test.true refl (rw c.in-Over.is at c.on_byte.ensures)
 
 pub overflow_add-i : goal.overflow_add-i
-overflow_add-i c = search (rules, c.loop-i-test.true, c.loop-i.invariant.running.checked.text-few)
+overflow_add-i c = search (rules, c.loop-i-test.true, c.loop-i.invariant.running.checked.text_few)
 
 pub loop-i-smaller : goal.loop-i-smaller
 loop-i-smaller c = search (rules, c.loop-i-test.true)

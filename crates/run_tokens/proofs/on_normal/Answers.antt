@@ -11,7 +11,7 @@ pub run_token-requires : goal.run_token-requires
 run_token-requires c = record { labelled = c.requires.labelled; running = c.requires.running; within = c.requires.within.0 }
 
 pub after_step-requires : goal.after_step-requires
-after_step-requires c = record { limit_in_bounds = (label-there (running-on c.requires.running c.run_token.ensures c.in-Go.is)).0; counted = (label-there (running-on c.requires.running c.run_token.ensures c.in-Go.is)).1; within = (c.requires.within.0, c.requires.running.checked.text-few) }
+after_step-requires c = record { limit_in_bounds = (label-there (running-on c.requires.running c.run_token.ensures c.in-Go.is)).0; counted = (label-there (running-on c.requires.running c.run_token.ensures c.in-Go.is)).1; within = (c.requires.within.0, c.requires.running.checked.text_few) }
 
 pub returns-in-Go : goal.returns-in-Go
 returns-in-Go c = normal-ran c.requires.running (sym c.is_token.ensures ∙ c.if-is_token.false) c.run_token.ensures c.in-Go.is c.after_step.ensures

@@ -20,7 +20,7 @@ whole : (d s o : List ℕ) (at i : ℕ) → length o ≡ length d → o ≡ past
 whole d s o at i same e room all =
     record {
       same = same;
-      next-is = ap (λ (k : ℕ). at + k) all;
+      next_is = ap (λ (k : ℕ). at + k) all;
       text =
           ap (λ (l : List ℕ). take (at + i) l) e
           ∙ take-paste d at s i (omega arith) (omega arith)

@@ -22,4 +22,4 @@ returns c =
     let n = c.args.n in
     let few : dec.result ≤ 20 = few-digits dec.result n dec.ensures.len (search rules) in
     let text : take dec.result dec.new.out ≡ decimal n = dec.ensures.digits ∙ decimal-digits 20 dec.result n dec.ensures.len few in
-    record { appended = rw text at put.ensures; upper_bound = omega (arith, dec.ensures.in_bounds.1, put.ensures.next-is) }
+    record { appended = rw text at put.ensures; upper_bound = omega (arith, dec.ensures.in_bounds.1, put.ensures.next_is) }

@@ -13,7 +13,7 @@ returns c =
       to_is = refl;
       tag_is = refl;
       end_is = refl;
-      word-is = refl;
+      word_is = refl;
       vars = c.do_substitute_vars-vars.ensures.lists;
       sized = search rules;
     }

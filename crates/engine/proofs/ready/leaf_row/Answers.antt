@@ -13,7 +13,7 @@ returns c =
       to_is = refl;
       tag_is = refl;
       end_is = refl;
-      word-is = search rules;
+      word_is = search rules;
       vars = c.raw_set-vars.ensures;
       sized = search rules;
     }

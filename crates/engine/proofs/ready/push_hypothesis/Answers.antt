@@ -10,4 +10,4 @@ pub returns-in-Ready : goal.returns-in-Ready
 returns-in-Ready c =
     let prep = rw c.in-Ready.is at c.prepare_hypothesis.ensures in
     let bounds = prep.bounds _ _ refl in
-    pushes-added prep bounds.0 bounds.1.0 bounds.1.1 prep.pool-sized c.leaf_row-leaf.ensures c.push.ensures
+    pushes-added prep bounds.0 bounds.1.0 bounds.1.1 prep.pool_sized c.leaf_row-leaf.ensures c.push.ensures

@@ -1,5 +1,5 @@
 -- `statement::answer_statement` meets its contract.
-use Rattle.proving.proofs.Asking.{next_small, text-few, proof-answers, other-says, beyond-says}
+use Rattle.proving.proofs.Asking.{next_small, text_few, proof-answers, other-says, beyond-says}
 use native.Mathlib.Omega.{arith}
 use Rattle.proving.proofs.statement.answer_statement.Goals as goal
 
@@ -7,7 +7,7 @@ pub proof_text-text-requires : goal.proof_text-text-requires
 proof_text-text-requires c = next_small c.requires.filed _ c.if-own-statements.true c.statement_offset-at.ensures
 
 pub answer_proof-requires : goal.answer_proof-requires
-answer_proof-requires c = record { labelled = c.requires.labelled; filed = c.requires.filed; asked = (c.if-own-statements.true, text-few c.requires.filed _ c.if-own-statements.true c.statement_offset-at.ensures c.proof_text-text.ensures c.kind.ensures c.if-kind-eq5.true); ours = c.requires.ours }
+answer_proof-requires c = record { labelled = c.requires.labelled; filed = c.requires.filed; asked = (c.if-own-statements.true, text_few c.requires.filed _ c.if-own-statements.true c.statement_offset-at.ensures c.proof_text-text.ensures c.kind.ensures c.if-kind-eq5.true); ours = c.requires.ours }
 
 pub returns-then-kind-eq5 : goal.returns-then-kind-eq5
 returns-then-kind-eq5 c = proof-answers c.requires.filed _ c.if-own-statements.true c.statement_offset-at.ensures c.proof_text-text.ensures c.kind.ensures c.if-kind-eq5.true _ c.answer_proof.ensures
