@@ -1,4 +1,5 @@
 -- The claim of an assertion as substituted: its variables have images, and its row stands for it.
+use Rattle.std.proofs.Common.{Some, None, Err}
 use Prim.Native.Nat.{ℕ, ◌+◌, ◌-◌, ◌≤◌, ◌<◌}
 use mathlib.Core.Path.{◌≡◌, refl, sym, ◌∙◌, ap}
 use mathlib.Core.Bool.{Bool, true, false}
@@ -20,7 +21,6 @@ use Rattle.machine.specs.Prepare.{spend}
 use Rattle.machine.specs.Apply.{conclude, conclusion}
 use Rattle.packed.specs.Packing.{packed}
 use Rattle.packed.specs.Pool.{range}
-use Rattle.packed.specs.declared.pool.Grown.TheVariants.{To, Full}
 use Rattle.packed.specs.Lists.{Located, Shows, Substitutes}
 use Rattle.packed.proofs.Packs.{pack-length}
 use Rattle.packed.proofs.Written.{range-written}
@@ -31,8 +31,7 @@ use Rattle.resolve.proofs.Filing.{located-statement, filed-indexed}
 use Rattle.memory.specs.declared.table.Row.{Row}
 use Rattle.memory.specs.declared.Counts.{Counts}
 use Rattle.memory.specs.declared.Limits.{Limits}
-use Rattle.memory.specs.declared.Outcome.{Outcome}
-use Rattle.memory.specs.declared.Outcome.TheVariants.{Refused}
+use Rattle.memory.specs.Outcome.{Outcome}
 use Rattle.memory.specs.Shown.{mark_of, Means, with_used, with_nodes, Pushes}
 use Rattle.memory.proofs.Stored.{push-used}
 use Rattle.memory.proofs.Showing.{shown-grown, down-drop}
@@ -124,8 +123,8 @@ module _ {f syms stmts : List ℕ} {a at : ℕ} (filed : Filed f syms stmts) (lo
 -- the pool after the claim was added: 43, or its packed text stands there
 module _ {f syms : List ℕ} {at : ℕ} {froms tos sets pool stack : List ℕ} {c : Counts} {limits : Limits} {left tag end word nodes : ℕ} {pool' : List ℕ} (fits : limits.pool ≤ length pool)
     (same_size : length pool' ≡ length pool) where
-  pub finalizes-full : Substitutes f syms at froms tos c.used limits.pool pool pool' Full
-      → Finalizes f syms at froms tos sets pool stack c limits left tag end word nodes pool' stack (Refused PoolFull)
+  pub finalizes-full : Substitutes f syms at froms tos c.used limits.pool pool pool' None
+      → Finalizes f syms at froms tos sets pool stack c limits left tag end word nodes pool' stack (Err PoolFull)
   unfolding conclude conclusion under
   finalizes-full subst =
       record {
@@ -139,7 +138,7 @@ module _ {f syms : List ℕ} {at : ℕ} {froms tos sets pool stack : List ℕ} {
             ends-stop _ (below-yes (omega arith));
       }
 
-  pub finalizes-to : {to : ℕ} {row : Row} {stack' : List ℕ} {answer : Outcome} → c.used ≤ to → Substitutes f syms at froms tos c.used limits.pool pool pool' (To to)
+  pub finalizes-to : {to : ℕ} {row : Row} {stack' : List ℕ} {answer : Outcome} → c.used ≤ to → Substitutes f syms at froms tos c.used limits.pool pool pool' (Some to)
       → ClaimRow f syms at sets c.used to tag end word row → Pushes stack (with_nodes (with_used c c.count to) nodes) limits.stack left row stack' answer
       → Finalizes f syms at froms tos sets pool stack c limits left tag end word nodes pool' stack' answer
   unfolding conclude conclusion under spend

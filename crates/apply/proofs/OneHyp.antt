@@ -1,4 +1,5 @@
 -- One hypothesis with its entry: the clauses of its contract, and what they mean for the definition's test.
+use Rattle.std.proofs.Common.{Ok, Err}
 use Prim.Native.Nat.{ℕ, ◌≤◌, ◌%◌}
 use mathlib.Core.Path.{◌≡◌, refl, sym, ◌∙◌, ap}
 use mathlib.Core.Bool.{Bool, true, false}
@@ -18,8 +19,7 @@ use Rattle.packed.specs.Images.{store_set}
 use Rattle.packed.specs.Lists.{Compares}
 use Rattle.packed.proofs.Imaging.{stored-length}
 use Rattle.memory.specs.declared.table.Row.{Row}
-use Rattle.apply.specs.declared.hyps.Processed.{Processed}
-use Rattle.apply.specs.declared.hyps.Processed.TheVariants.{Fine, Refused}
+use Rattle.machine.specs.Passed.{Passed}
 use Rattle.apply.specs.Hyps.{Clamped, Ranged, BindsFloat, ChecksEssential, ProcessesHyp}
 
 module _ (f : List ℕ) (at : ℕ) (row : Row) (froms tos sets : List ℕ) {code : ℕ} (is : code ≡ get_or (statement_at f at).symbols 0 0) where
@@ -31,7 +31,7 @@ module _ (f : List ℕ) (at : ℕ) (row : Row) (froms tos sets : List ℕ) {code
   unfolding typecode
   alike e = equal-yes (e ∙ is)
 
-  pub binds-other : (row.head ≡ code → ⊥) → BindsFloat f at row froms tos sets froms tos sets (Refused StepFloatWrongType)
+  pub binds-other : (row.head ≡ code → ⊥) → BindsFloat f at row froms tos sets froms tos sets (Err StepFloatWrongType)
   binds-other n =
       record {
         answers = pick_second _ (other n) refl;
@@ -42,7 +42,7 @@ module _ (f : List ℕ) (at : ℕ) (row : Row) (froms tos sets : List ℕ) {code
 
   pub binds-same : {v : ℕ} {froms' tos' sets' : List ℕ} → row.head ≡ code → v ≡ get_or (statement_at f at).symbols 1 0 → froms' ≡ set froms (v % 65536) row.from
       → tos' ≡ set tos (v % 65536) row.to → sets' ≡ store_set sets (v % 65536) row.vars.words
-      → BindsFloat f at row froms tos sets froms' tos' sets' Fine
+      → BindsFloat f at row froms tos sets froms' tos' sets' (Ok tt)
   unfolding floated
   binds-same e v a b c =
       record {
@@ -53,12 +53,12 @@ module _ (f : List ℕ) (at : ℕ) (row : Row) (froms tos sets : List ℕ) {code
       }
 
   module _ (syms pool : List ℕ) where
-    pub essential-other : (row.head ≡ code → ⊥) → ChecksEssential f syms at row froms tos pool (Refused StepEssenWrongType)
+    pub essential-other : (row.head ≡ code → ⊥) → ChecksEssential f syms at row froms tos pool (Err StepEssenWrongType)
     essential-other n =
         record { other = λ e. refl; alike = λ e. absurd (true-not-false e (other n)) }
 
     pub essential-same : {t : Bool} → row.head ≡ code → Compares f syms at froms tos pool row.from row.to t
-        → ChecksEssential f syms at row froms tos pool (pick t Fine (Refused StepEssenWrong))
+        → ChecksEssential f syms at row froms tos pool (pick t (Ok tt) (Err StepEssenWrong))
     essential-same {t} e c = record { other = λ n. absurd (true-not-false (alike e) n); alike = λ a. (t, c, refl) }
 
 -- one of two lists of one length
@@ -95,7 +95,7 @@ ranged-set {froms} {tos} {n} v from to sized r low high =
         inside true b = rw (get_or-set_same tos v to 0 (below_true _ _ b)) high
         inside false b = let z = past tos v to (below_false _ _ b) in omega arith
 
-module _ {f syms : List ℕ} {at : ℕ} {row : Row} {froms tos sets pool froms' tos' sets' : List ℕ} {k : ℕ} {answer : Processed} (kind : k ≡ (statement_at f at).kind) where
+module _ {f syms : List ℕ} {at : ℕ} {row : Row} {froms tos sets pool froms' tos' sets' : List ℕ} {k : ℕ} {answer : Passed} (kind : k ≡ (statement_at f at).kind) where
   -- a $f
   pub processes-float : k ≡ 2 → length froms ≤ length tos → row.from ≤ row.to
       → BindsFloat f at row froms tos sets froms' tos' sets' answer → ProcessesHyp f syms at row froms tos sets pool froms' tos' sets' answer
@@ -116,7 +116,7 @@ module _ {f syms : List ℕ} {at : ℕ} {row : Row} {froms tos sets pool froms' 
       tried n r high false = r
 
 -- a $e
-pub processes-essential : {f syms : List ℕ} {at : ℕ} {row : Row} {froms tos sets pool : List ℕ} {k : ℕ} {answer : Processed} → k ≡ (statement_at f at).kind → (k ≡ 2 → ⊥)
+pub processes-essential : {f syms : List ℕ} {at : ℕ} {row : Row} {froms tos sets pool : List ℕ} {k : ℕ} {answer : Passed} → k ≡ (statement_at f at).kind → (k ≡ 2 → ⊥)
     → ChecksEssential f syms at row froms tos pool answer → ProcessesHyp f syms at row froms tos sets pool froms tos sets answer
 processes-essential kind not-two c =
     record { ranged = λ n r high. r; froms_sized = refl; tos_sized = refl; sets_sized = refl; float = λ e. absurd (not-two (kind ∙ e)); essential = λ n. (c, (refl, (refl, refl))) }

@@ -1,4 +1,5 @@
 -- The hypotheses one after another: the definition's tests that are left, and the images that the table has so far.
+use Rattle.std.proofs.Common.{Ok, Err}
 use Prim.Native.Nat.{ℕ, zero, suc, ◌+◌, ◌*◌, ◌≤◌, ◌<◌, ◌%◌}
 use mathlib.Core.Path.{◌≡◌, refl, sym, ◌∙◌, ap}
 use mathlib.Core.Bool.{Bool, true, false}
@@ -32,8 +33,7 @@ use Rattle.memory.specs.declared.table.Row.{Row}
 use Rattle.memory.specs.Table.{RowAt}
 use Rattle.memory.specs.Shown.{Along, ends, next, Means}
 use Rattle.memory.proofs.Tables.{row-four, row_one}
-use Rattle.apply.specs.declared.hyps.Processed.{Processed}
-use Rattle.apply.specs.declared.hyps.Processed.TheVariants.{Fine, Refused}
+use Rattle.machine.specs.Passed.{Passed}
 use Rattle.apply.specs.Hyps.{Ranged, BindsFloat, ChecksEssential, ProcessesHyp, processed, ImageShown, SeatMeans, Seated, ProcessesHyps, SeatRow, Clamped}
 
 -- the member at j, with what is shown of it
@@ -77,7 +77,7 @@ seat-read {stack} {base} {seats} {j} {used} {i} {k} {row} {now} e f at c =
     }
 
 -- one hypothesis with its entry, where the table shows the substitution for the symbols of a $e
-module _ {f syms : List ℕ} {at h : ℕ} {vs pool : List ℕ} {used : ℕ} {row : Row} {e : Expression} {froms tos sets froms' tos' sets' : List ℕ} {answer : Processed}
+module _ {f syms : List ℕ} {at h : ℕ} {vs pool : List ℕ} {used : ℕ} {row : Row} {e : Expression} {froms tos sets froms' tos' sets' : List ℕ} {answer : Passed}
     (ix : Indexed f syms) (loc : Located f h at) (means : Means (database f) vs pool used row e)
     (p : ProcessesHyp f syms at row froms tos sets pool froms' tos' sets' answer) (σ : Substitution) (rest : Result Memory) where
   code_is : equal e.typecode (expression_of (database f) h).typecode ≡ equal row.head (typecode (statement_at f at))
@@ -90,7 +90,7 @@ module _ {f syms : List ℕ} {at h : ℕ} {vs pool : List ℕ} {used : ℕ} {row
       let b = p.float (sym (ap (λ (st : Rattle.frames.specs.Database.Statement). st.kind) (located-statement loc)) ∙ two) in
       rw (equal-yes two, b.answers) (rw code_is (tried (equal row.head (typecode (statement_at f at)))))
     where
-      tried : (t : Bool) → unless (no t) StepFloatWrongType (unless false StepEssenWrong rest) ≡ processed (pick t Fine (Refused StepFloatWrongType)) rest
+      tried : (t : Bool) → unless (no t) StepFloatWrongType (unless false StepEssenWrong rest) ≡ processed (pick t (Ok tt) (Err StepFloatWrongType)) rest
       tried true = refl
       tried false = refl
 
@@ -109,7 +109,7 @@ module _ {f syms : List ℕ} {at h : ℕ} {vs pool : List ℕ} {used : ℕ} {row
           let told = w.1.tells h σ e.symbols ix loc shows means.defined means.symbols in
           rw (w.2, told) (settled (same e.symbols (substituted (is_variable (database f)) σ (expression_of (database f) h).symbols)))
         where
-          settled : (u : Bool) → unless (no u) StepEssenWrong rest ≡ processed (pick u Fine (Refused StepEssenWrong)) rest
+          settled : (u : Bool) → unless (no u) StepEssenWrong rest ≡ processed (pick u (Ok tt) (Err StepEssenWrong)) rest
           settled true = refl
           settled false = refl
 
@@ -194,7 +194,7 @@ processing-none froms tos sets pool r =
 module _ {f syms stmts : List ℕ} {at : ℕ} {stack : List ℕ} {base : ℕ} {seats : List ℕ} {used : ℕ} {froms₀ tos₀ sets₀ pool : List ℕ} {j : ℕ} {froms tos sets : List ℕ}
     (inv : Processing f syms stmts at stack base seats used froms₀ tos₀ sets₀ pool j froms tos sets) where
   -- at hypothesis j
-  module _ {h o : ℕ} {row : Row} {froms' tos' sets' : List ℕ} {answer : Processed} (few : j < length (statement_at f at).hyps) (h-is : h ≡ get_or (statement_at f at).hyps j 0)
+  module _ {h o : ℕ} {row : Row} {froms' tos' sets' : List ℕ} {answer : Passed} (few : j < length (statement_at f at).hyps) (h-is : h ≡ get_or (statement_at f at).hyps j 0)
       (o_is : o ≡ get_or stmts h 0) (seat : SeatRow stack base seats j used row) (p : ProcessesHyp f syms o row froms tos sets pool froms' tos' sets' answer) where
     module _ (a : ℕ) (xs : List Proved) (vs : List ℕ) (s : Seated f syms stmts at stack base seats used pool a xs vs)
         (x : length (database f).symbols ≤ length froms₀) (y : length (database f).symbols ≤ length tos₀) (z : 4 * length (database f).symbols ≤ length sets₀) where
@@ -291,7 +291,7 @@ module _ {f syms stmts : List ℕ} {at : ℕ} {stack : List ℕ} {base : ℕ} {s
       floated-few two = (((good-facts f s.filed.good).statement h there').float_variable two).defined
 
       -- where the answer is fine, the variable of a $f is bound
-      bound-tables : answer ≡ Fine → (statement_of (database f) h).kind ≡ 2
+      bound-tables : answer ≡ (Ok tt) → (statement_of (database f) h).kind ≡ 2
           → (froms' ≡ set froms (floated (statement_of (database f) h)) row.from) × ((tos' ≡ set tos (floated (statement_of (database f) h)) row.to) × (sets' ≡ store_set sets (floated (statement_of (database f) h)) row.vars.words))
       unfolding pick
       bound-tables fine two = tried (equal row.head (typecode (statement_at f o))) refl (p.float (kind-read ∙ two))
@@ -307,12 +307,12 @@ module _ {f syms stmts : List ℕ} {at : ℕ} {stack : List ℕ} {base : ℕ} {s
               → (froms' ≡ set froms (floated (statement_of (database f) h)) row.from) × ((tos' ≡ set tos (floated (statement_of (database f) h)) row.to) × (sets' ≡ store_set sets (floated (statement_of (database f) h)) row.vars.words))
           tried true q b = (rw (q, small) at b.froms_is, (rw (q, small) at b.tos_is, rw (q, small) at b.sets_is))
           tried false q b =
-              let refused : answer ≡ Refused StepFloatWrongType = rw q at b.answers in
+              let refused : answer ≡ Err StepFloatWrongType = rw q at b.answers in
               let z : ◌≡◌ {A = ℕ} 0 1 = cc in
               absurd (omega arith)
 
       -- the images that the table has then
-      images-now : answer ≡ Fine → (g : ℕ) → g ∈ take (j + 1) (statement_of (database f) a).hyps → is_float (statement_of (database f) g) ≡ true
+      images-now : answer ≡ (Ok tt) → (g : ℕ) → g ∈ take (j + 1) (statement_of (database f) a).hyps → is_float (statement_of (database f) g) ≡ true
           → ImageShown (database f) vs pool used froms' tos' sets' (floated (statement_of (database f) g)) (bound (database f) (statement_of (database f) a).hyps xs (floated (statement_of (database f) g)))
       images-now fine g m is = by_kind (equal (statement_of (database f) h).kind 2) refl
         where
@@ -360,7 +360,7 @@ module _ {f syms stmts : List ℕ} {at : ℕ} {stack : List ℕ} {base : ℕ} {s
               other (inr e) = absurd (equal-false _ _ q (rw e at (float-kind _ is)))
 
     -- it is fine: one more is done
-    pub processing-more : answer ≡ Fine
+    pub processing-more : answer ≡ (Ok tt)
         → Processing f syms stmts at stack base seats used froms₀ tos₀ sets₀ pool (j + 1) froms' tos' sets'
     unfolding processed
     processing-more fine =
@@ -374,8 +374,8 @@ module _ {f syms stmts : List ℕ} {at : ℕ} {stack : List ℕ} {base : ℕ} {s
         }
 
     -- it is refused
-    pub processing-stop : {why : Refusal} → answer ≡ Refused why
-        → ProcessesHyps f syms stmts at stack base seats used froms₀ tos₀ sets₀ pool froms' tos' sets' (Refused why)
+    pub processing-stop : {why : Refusal} → answer ≡ Err why
+        → ProcessesHyps f syms stmts at stack base seats used froms₀ tos₀ sets₀ pool froms' tos' sets' (Err why)
     unfolding processed
     processing-stop is =
         record {
@@ -388,7 +388,7 @@ module _ {f syms stmts : List ℕ} {at : ℕ} {stack : List ℕ} {base : ℕ} {s
         }
 
   -- all are done
-  pub processing-done : length (statement_at f at).hyps ≤ j → ProcessesHyps f syms stmts at stack base seats used froms₀ tos₀ sets₀ pool froms tos sets Fine
+  pub processing-done : length (statement_at f at).hyps ≤ j → ProcessesHyps f syms stmts at stack base seats used froms₀ tos₀ sets₀ pool froms tos sets (Ok tt)
   unfolding processed check_hyps
   processing-done all_done =
       record {

@@ -1,4 +1,5 @@
 -- A step of an assertion, part by part.
+use Rattle.std.proofs.Common.{Ok, Err}
 use Prim.Native.Nat.{ℕ, ◌+◌, ◌-◌, ◌≤◌, ◌<◌}
 use mathlib.Core.Path.{◌≡◌, refl, sym, ◌∙◌, ap}
 use mathlib.Core.Bool.{true, false}
@@ -26,22 +27,17 @@ use Rattle.disjoint.specs.Disjoint.{Tabled, Keeps}
 use Rattle.disjoint.proofs.Tabling.{tabled-grown}
 use Rattle.memory.specs.declared.Counts.{Counts}
 use Rattle.memory.specs.declared.Limits.{Limits}
-use Rattle.memory.specs.declared.Outcome.{Outcome}
-use Rattle.memory.specs.declared.Outcome.TheVariants.{Refused}
+use Rattle.memory.specs.Outcome.{Outcome}
 use Rattle.memory.specs.Shown.{bench, lent, Extends, Along, EntryShown, Shown, refuses}
 use Rattle.memory.proofs.Showing.{along-map, down-length, down-take, shown-noted}
 use Rattle.memory.proofs.Ending.{ends_by, ends-stop, ends-skip}
-use Rattle.seats.specs.declared.Seated.{Seated}
-use Rattle.seats.specs.declared.Seated.TheVariants.{Done}
-use Rattle.seats.specs.declared.Seated.TheVariants as seated-as
+use Rattle.machine.specs.Passed.{Passed}
 use Rattle.seats.specs.Seats.{MarkShown, SeatShown, judged, Seating, Seats}
 use Rattle.seats.proofs.Seating.{nth-shown}
 use Rattle.recording.specs.declared.Noted.{Noted}
 use Rattle.recording.specs.Notes.{Notes}
 use Rattle.apply.proofs.Noted.{nth-few, records-step}
 use Rattle.apply.specs.Claim.{Finalizes}
-use Rattle.apply.specs.declared.hyps.Processed.TheVariants.{Fine}
-use Rattle.apply.specs.declared.hyps.Processed.TheVariants as processed-as
 use Rattle.apply.specs.Hyps.{Ranged, processed, SeatMeans, ProcessesHyps}
 use Rattle.apply.specs.Step.{Under, AppliesChecked, AppliesSeated, Executes}
 
@@ -67,7 +63,7 @@ module _ {f syms stmts : List ℕ} {at : ℕ} {table froms tos sets pool stack :
             (final.follows stmts p text numbers places locals tree a σ xs h m filed loc asserts images depth s records);
       }
 
-  pub checked-broken : Keeps f stmts at sets table false → AppliesChecked f syms stmts at table froms tos sets pool stack c limits left tag end word nodes pool stack (Refused ProofDvViolation)
+  pub checked-broken : Keeps f stmts at sets table false → AppliesChecked f syms stmts at table froms tos sets pool stack c limits left tag end word nodes pool stack (Err ProofDvViolation)
   checked-broken keeps =
       record {
         grows = λ c' e. let z : ◌≡◌ {A = ℕ} 0 1 = cc in absurd (omega arith);
@@ -82,8 +78,8 @@ module _ {f syms stmts : List ℕ} {at : ℕ} {table froms tos sets pool stack :
 
   module _ {seats froms' tos' sets' : List ℕ} where
     -- a hypothesis is not as it must be
-    pub seated-refused : {why : Refusal} → ProcessesHyps f syms stmts at stack left seats c.used froms tos sets pool froms' tos' sets' (processed-as.Refused why)
-        → AppliesSeated f syms stmts at table seats froms tos sets pool stack c limits left tag end word nodes froms' tos' sets' pool stack (Refused why)
+    pub seated-refused : {why : Refusal} → ProcessesHyps f syms stmts at stack left seats c.used froms tos sets pool froms' tos' sets' (Err why)
+        → AppliesSeated f syms stmts at table seats froms tos sets pool stack c limits left tag end word nodes froms' tos' sets' pool stack (Err why)
     unfolding apply_assertion processed
     seated-refused p =
         record {
@@ -97,7 +93,7 @@ module _ {f syms stmts : List ℕ} {at : ℕ} {table froms tos sets pool stack :
         }
 
     -- the hypotheses are as they must be
-    pub seated-fine : {pool' stack' : List ℕ} {answer : Outcome} → ProcessesHyps f syms stmts at stack left seats c.used froms tos sets pool froms' tos' sets' Fine
+    pub seated-fine : {pool' stack' : List ℕ} {answer : Outcome} → ProcessesHyps f syms stmts at stack left seats c.used froms tos sets pool froms' tos' sets' (Ok tt)
         → AppliesChecked f syms stmts at table froms' tos' sets' pool stack c limits left tag end word nodes pool' stack' answer
         → AppliesSeated f syms stmts at table seats froms tos sets pool stack c limits left tag end word nodes froms' tos' sets' pool' stack' answer
     unfolding apply_assertion processed
@@ -164,7 +160,7 @@ module _ (f syms stmts : List ℕ) (a at n : ℕ) (at-is : at ≡ get_or stmts a
           let d = down-length s.stack in
           length-reverse (take (length (statement_of (database f) a).hyps) m.stack) ∙ (length-take-le (length (statement_of (database f) a).hyps) m.stack (omega arith) ∙ sym k)
 
-      seating : {seats : List ℕ} {answer : Seated} → Seats f stmts at text stack (c.depth - n) n seats answer
+      seating : {seats : List ℕ} {answer : Passed} → Seats f stmts at text stack (c.depth - n) n seats answer
           → Seating (map (label_of (database f)) (statement_of (database f) a).hyps) (reverse (take (length (statement_of (database f) a).hyps) m.stack)) n seats answer
       seating seat = seat.follows syms a _ filed located counted as_many (marks-shown there-are)
 
@@ -174,7 +170,7 @@ module _ (f syms stmts : List ℕ) (a at n : ℕ) (at-is : at ≡ get_or stmts a
 module _ {f syms stmts : List ℕ} {a at n : ℕ} {text table froms tos sets pool stack tree : List ℕ} {c : Counts} {limits : Limits} {tag end : ℕ} (at-is : at ≡ get_or stmts a 0)
     (n-is : n ≡ length (statement_at f at).hyps) where
   -- too few entries
-  pub executes-underflow : Ranged froms tos c.used → c.depth < n → Executes f syms stmts a text table froms tos sets pool stack tree c limits tag end froms tos sets pool stack tree (Refused ProofUnderflow)
+  pub executes-underflow : Ranged froms tos c.used → c.depth < n → Executes f syms stmts a text table froms tos sets pool stack tree c limits tag end froms tos sets pool stack tree (Err ProofUnderflow)
   unfolding run_prepared
   executes-underflow r few =
       record {
@@ -189,7 +185,7 @@ module _ {f syms stmts : List ℕ} {a at n : ℕ} {text table froms tos sets poo
       }
 
   -- a checked file lists at most 64 hypotheses
-  pub executes-never : Ranged froms tos c.used → 64 < n → Executes f syms stmts a text table froms tos sets pool stack tree c limits tag end froms tos sets pool stack tree (Refused ProofUnderflow)
+  pub executes-never : Ranged froms tos c.used → 64 < n → Executes f syms stmts a text table froms tos sets pool stack tree c limits tag end froms tos sets pool stack tree (Err ProofUnderflow)
   executes-never r many =
       record {
         ranged = r;
@@ -205,8 +201,8 @@ module _ {f syms stmts : List ℕ} {a at n : ℕ} {text table froms tos sets poo
 
   module _ (enough : n ≤ c.depth) (small : n ≤ 64) {seats : List ℕ} where
     -- a mark is wrong
-    pub executes-refused : {why : Refusal} → Ranged froms tos c.used → Seats f stmts at text stack (c.depth - n) n seats (seated-as.Refused why)
-        → Executes f syms stmts a text table froms tos sets pool stack tree c limits tag end froms tos sets pool stack tree (Refused why)
+    pub executes-refused : {why : Refusal} → Ranged froms tos c.used → Seats f stmts at text stack (c.depth - n) n seats (Err why)
+        → Executes f syms stmts a text table froms tos sets pool stack tree c limits tag end froms tos sets pool stack tree (Err why)
     unfolding run_prepared assign_entries judged
     executes-refused r seat =
         record {
@@ -222,7 +218,7 @@ module _ {f syms stmts : List ℕ} {a at n : ℕ} {text table froms tos sets poo
         }
 
     -- each hypothesis has its entry
-    pub executes-seated : {froms' tos' sets' pool' stack' tree' : List ℕ} {noted : Noted} {answer : Outcome} → Seats f stmts at text stack (c.depth - n) n seats Done
+    pub executes-seated : {froms' tos' sets' pool' stack' tree' : List ℕ} {noted : Noted} {answer : Outcome} → Seats f stmts at text stack (c.depth - n) n seats (Ok tt)
         → Notes at stack (c.depth - n) seats n tree c.nodes tree' noted
         → AppliesSeated f syms stmts at table seats froms tos sets pool stack c limits (c.depth - n) tag end noted.word noted.nodes froms' tos' sets' pool' stack' answer
         → Executes f syms stmts a text table froms tos sets pool stack tree c limits tag end froms' tos' sets' pool' stack' tree' answer

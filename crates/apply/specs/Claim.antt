@@ -1,5 +1,5 @@
 -- The claim of an assertion as substituted: its row, and which result of the definition the answer is.
-use Rattle.std.specs.Prelude.{ℕ, ◌+◌, ◌≤◌, ◌≡◌, List, length}
+use Rattle.std.specs.Prelude.{ℕ, ◌+◌, ◌≤◌, ◌≡◌, List, length, Ok}
 use Rattle.book.specs.Book.{Substitution, node}
 use Rattle.frames.specs.Database.{database, statement_at}
 use Rattle.frames.specs.Facts.{◌∈◌, statement_of, typecode}
@@ -11,8 +11,7 @@ use Rattle.resolve.specs.Filed.{Filed}
 use Rattle.memory.specs.declared.table.Row.{Row}
 use Rattle.memory.specs.declared.Counts.{Counts}
 use Rattle.memory.specs.declared.Limits.{Limits}
-use Rattle.memory.specs.declared.Outcome.{Outcome}
-use Rattle.memory.specs.declared.Outcome.TheVariants.{Go}
+use Rattle.memory.specs.Outcome.{Outcome}
 use Rattle.memory.specs.Shown.{room_of, bench, lent, mark_of, Records, Shown, Ends}
 use Rattle.apply.specs.Hyps.{ImageShown}
 
@@ -30,7 +29,7 @@ pub record ClaimRow (f syms : List ℕ) (at : ℕ) (sets : List ℕ) (from to ta
 -- the claim as substituted replaces the top h entries, as the definition says; its row has the word that the step records
 pub record Finalizes (f syms : List ℕ) (at : ℕ) (froms tos sets pool stack : List ℕ) (c : Counts) (limits : Limits) (left tag end word nodes : ℕ)
     (pool' stack' : List ℕ) (answer : Outcome) : Type 0 where
-  pub grows : (c' : Counts) → answer ≡ Go c' → c.used ≤ c'.used
+  pub grows : (c' : Counts) → answer ≡ Ok c' → c.used ≤ c'.used
   pub pool_sized : length pool' ≡ length pool
   pub follows : (stmts : List ℕ) (p : ℕ) (text numbers places locals tree : List ℕ) (a : ℕ) (σ : Substitution) (xs : List Proved) (h : ℕ) (m : Memory)
       → Filed f syms stmts → Located f a at → 4 ≤ (statement_of (database f) a).kind

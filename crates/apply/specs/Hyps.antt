@@ -1,5 +1,5 @@
 -- The hypotheses of an assertion with their entries: what each does to the table of images, and which result of the definition the answer is.
-use Rattle.std.specs.Prelude.{ℕ, ◌+◌, ◌*◌, ◌≤◌, ◌<◌, ◌%◌, ◌≡◌, Bool, true, false, List, length, get_or, set}
+use Rattle.std.specs.Prelude.{ℕ, ◌+◌, ◌*◌, ◌≤◌, ◌<◌, ◌%◌, ◌≡◌, Bool, true, false, List, length, get_or, set, Ok, Err}
 use Rattle.frames.specs.Logic.{equal, pick}
 use Rattle.frames.specs.Database.{Database, database, statement_at}
 use Rattle.frames.specs.Facts.{◌∈◌, statement_of, floated, typecode}
@@ -16,8 +16,7 @@ use Rattle.resolve.specs.Filed.{Filed}
 use Rattle.memory.specs.declared.table.Row.{Row}
 use Rattle.memory.specs.Table.{RowAt}
 use Rattle.memory.specs.Shown.{Along, Means}
-use Rattle.apply.specs.declared.hyps.Processed.{Processed}
-use Rattle.apply.specs.declared.hyps.Processed.TheVariants.{Fine, Refused}
+use Rattle.machine.specs.Passed.{Passed}
 
 -- a row with its range within the first `used` bytes: the row itself, where its range is there
 pub record Clamped (row : Row) (used : ℕ) (now : Row) : Type 0 where
@@ -31,20 +30,20 @@ pub record Ranged (froms tos : List ℕ) (n : ℕ) : Type 0 where
   pub within : (s : ℕ) → get_or tos s 0 ≤ n
 
 -- a $f: 35, or its variable is bound
-pub record BindsFloat (f : List ℕ) (at : ℕ) (row : Row) (froms tos sets froms' tos' sets' : List ℕ) (answer : Processed) : Type 0 where
-  pub answers : answer ≡ pick (equal row.head (typecode (statement_at f at))) Fine (Refused StepFloatWrongType)
+pub record BindsFloat (f : List ℕ) (at : ℕ) (row : Row) (froms tos sets froms' tos' sets' : List ℕ) (answer : Passed) : Type 0 where
+  pub answers : answer ≡ pick (equal row.head (typecode (statement_at f at))) (Ok tt) (Err StepFloatWrongType)
   pub froms_is : froms' ≡ pick (equal row.head (typecode (statement_at f at))) (set froms (floated (statement_at f at) % 65536) row.from) froms
   pub tos_is : tos' ≡ pick (equal row.head (typecode (statement_at f at))) (set tos (floated (statement_at f at) % 65536) row.to) tos
   pub sets_is : sets' ≡ pick (equal row.head (typecode (statement_at f at))) (store_set sets (floated (statement_at f at) % 65536) row.vars.words) sets
 
 -- a $e: 36, then 37 where the row's symbols are not its symbols as substituted
-pub record ChecksEssential (f syms : List ℕ) (at : ℕ) (row : Row) (froms tos pool : List ℕ) (answer : Processed) : Type 0 where
-  pub other : equal row.head (typecode (statement_at f at)) ≡ false → answer ≡ Refused StepEssenWrongType
+pub record ChecksEssential (f syms : List ℕ) (at : ℕ) (row : Row) (froms tos pool : List ℕ) (answer : Passed) : Type 0 where
+  pub other : equal row.head (typecode (statement_at f at)) ≡ false → answer ≡ Err StepEssenWrongType
   pub alike : equal row.head (typecode (statement_at f at)) ≡ true
-      → (same : Bool) × Compares f syms at froms tos pool row.from row.to same × (answer ≡ pick same Fine (Refused StepEssenWrong))
+      → (same : Bool) × Compares f syms at froms tos pool row.from row.to same × (answer ≡ pick same (Ok tt) (Err StepEssenWrong))
 
 -- a $f or $e with its entry
-pub record ProcessesHyp (f syms : List ℕ) (at : ℕ) (row : Row) (froms tos sets pool froms' tos' sets' : List ℕ) (answer : Processed) : Type 0 where
+pub record ProcessesHyp (f syms : List ℕ) (at : ℕ) (row : Row) (froms tos sets pool froms' tos' sets' : List ℕ) (answer : Passed) : Type 0 where
   pub ranged : (n : ℕ) → Ranged froms tos n → row.to ≤ n → Ranged froms' tos' n
   pub froms_sized : length froms' ≡ length froms
   pub tos_sized : length tos' ≡ length tos
@@ -54,9 +53,9 @@ pub record ProcessesHyp (f syms : List ℕ) (at : ℕ) (row : Row) (froms tos se
       → ChecksEssential f syms at row froms tos pool answer × ((froms' ≡ froms) × ((tos' ≡ tos) × (sets' ≡ sets)))
 
 -- the definition's result for an answer of the code
-unfoldable pub processed : Processed → Result Memory → Result Memory
-processed Fine rest = rest
-processed (Refused why) rest = stop why
+unfoldable pub processed : Passed → Result Memory → Result Memory
+processed (Ok tt) rest = rest
+processed (Err why) rest = stop why
 
 -- the table has the image of variable v: its packed symbols, and the numbers of its variables
 pub record ImageShown (db : Database) (vs pool : List ℕ) (used : ℕ) (froms tos sets : List ℕ) (v : ℕ) (xs : List ℕ) : Type 0 where
@@ -82,7 +81,7 @@ pub record Seated (f syms stmts : List ℕ) (at : ℕ) (stack : List ℕ) (base 
   pub shown : Along (SeatMeans (database f) vs pool used stack base seats) 0 xs
 
 -- the hypotheses with their entries: the definition's tests pass or refuse alike; where they pass, the table has the images of the mandatory variables
-pub record ProcessesHyps (f syms stmts : List ℕ) (at : ℕ) (stack : List ℕ) (base : ℕ) (seats : List ℕ) (used : ℕ) (froms tos sets pool froms' tos' sets' : List ℕ) (answer : Processed) : Type 0 where
+pub record ProcessesHyps (f syms stmts : List ℕ) (at : ℕ) (stack : List ℕ) (base : ℕ) (seats : List ℕ) (used : ℕ) (froms tos sets pool froms' tos' sets' : List ℕ) (answer : Passed) : Type 0 where
   pub ranged : Ranged froms' tos' used
   pub froms_sized : length froms' ≡ length froms
   pub tos_sized : length tos' ≡ length tos
@@ -91,7 +90,7 @@ pub record ProcessesHyps (f syms stmts : List ℕ) (at : ℕ) (stack : List ℕ)
       → length (database f).symbols ≤ length froms → length (database f).symbols ≤ length tos → 4 * length (database f).symbols ≤ length sets
       → check_hyps (database f) (bound (database f) (statement_of (database f) a).hyps xs) (statement_of (database f) a).hyps xs rest ≡ processed answer rest
   pub images : (a : ℕ) (xs : List Proved) (vs : List ℕ) → Seated f syms stmts at stack base seats used pool a xs vs
-      → length (database f).symbols ≤ length froms → length (database f).symbols ≤ length tos → 4 * length (database f).symbols ≤ length sets → answer ≡ Fine → (v : ℕ) → v ∈ mandatory (database f) (statement_of (database f) a).hyps
+      → length (database f).symbols ≤ length froms → length (database f).symbols ≤ length tos → 4 * length (database f).symbols ≤ length sets → answer ≡ (Ok tt) → (v : ℕ) → v ∈ mandatory (database f) (statement_of (database f) a).hyps
       → ImageShown (database f) vs pool used froms' tos' sets' v (bound (database f) (statement_of (database f) a).hyps xs v)
 
 -- the row in seat j, with its range within the first `used` bytes

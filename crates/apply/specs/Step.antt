@@ -1,5 +1,5 @@
 -- A step of an assertion: which result of the definition the answer is, for every memory that the tables show.
-use Rattle.std.specs.Prelude.{ℕ, ◌+◌, ◌*◌, ◌≤◌, ◌<◌, ◌≡◌, List, length}
+use Rattle.std.specs.Prelude.{ℕ, ◌+◌, ◌*◌, ◌≤◌, ◌<◌, ◌≡◌, List, length, Ok}
 use Rattle.book.specs.Book.{Substitution, node}
 use Rattle.frames.specs.Logic.{no, all}
 use Rattle.frames.specs.Database.{database}
@@ -16,8 +16,7 @@ use Rattle.resolve.specs.Resolve.{Applicable}
 use Rattle.disjoint.specs.Disjoint.{Tabled}
 use Rattle.memory.specs.declared.Counts.{Counts}
 use Rattle.memory.specs.declared.Limits.{Limits}
-use Rattle.memory.specs.declared.Outcome.{Outcome}
-use Rattle.memory.specs.declared.Outcome.TheVariants.{Go}
+use Rattle.memory.specs.Outcome.{Outcome}
 use Rattle.memory.specs.Shown.{room_of, bench, lent, mark_of, Records, Shown, Ends}
 use Rattle.apply.specs.Hyps.{Ranged, ImageShown, Seated}
 
@@ -29,7 +28,7 @@ pub record Under (f : List ℕ) (p : ℕ) (table : List ℕ) : Type 0 where
 -- the disjointness test and the result, where the table of images shows the substitution
 pub record AppliesChecked (f syms stmts : List ℕ) (at : ℕ) (table froms tos sets pool stack : List ℕ) (c : Counts) (limits : Limits) (left tag end word nodes : ℕ)
     (pool' stack' : List ℕ) (answer : Outcome) : Type 0 where
-  pub grows : (c' : Counts) → answer ≡ Go c' → c.used ≤ c'.used
+  pub grows : (c' : Counts) → answer ≡ Ok c' → c.used ≤ c'.used
   pub pool_sized : length pool' ≡ length pool
   pub follows : (p : ℕ) (text numbers places locals tree : List ℕ) (a : ℕ) (σ : Substitution) (xs : List Proved) (h : ℕ) (m : Memory)
       → Filed f syms stmts → Located f a at → 4 ≤ (statement_of (database f) a).kind → Under f p table
@@ -48,7 +47,7 @@ pub record AppliesSeated (f syms stmts : List ℕ) (at : ℕ) (table seats froms
   pub froms_sized : length froms' ≡ length froms
   pub tos_sized : length tos' ≡ length tos
   pub sets_sized : length sets' ≡ length sets
-  pub grows : (c' : Counts) → answer ≡ Go c' → c.used ≤ c'.used
+  pub grows : (c' : Counts) → answer ≡ Ok c' → c.used ≤ c'.used
   pub follows : (p : ℕ) (text numbers places locals tree : List ℕ) (a : ℕ) (xs : List Proved) (m : Memory) → 4 ≤ (statement_of (database f) a).kind → Under f p table
       → length (database f).symbols ≤ length froms → length (database f).symbols ≤ length tos → 4 * length (database f).symbols ≤ length sets
       → Seated f syms stmts at stack left seats c.used pool a xs m.variables
@@ -65,7 +64,7 @@ pub record Executes (f syms stmts : List ℕ) (a : ℕ) (text table froms tos se
   pub tos_sized : length tos' ≡ length tos
   pub sets_sized : length sets' ≡ length sets
   pub tree_sized : length tree' ≡ length tree
-  pub grows : (c' : Counts) → answer ≡ Go c' → c.used ≤ c'.used
+  pub grows : (c' : Counts) → answer ≡ Ok c' → c.used ≤ c'.used
   pub follows : (p : ℕ) (numbers places locals : List ℕ) (m : Memory) → Filed f syms stmts → p < length (database f).statements
       → Applicable (database f) p a → Under f p table → length (database f).symbols ≤ length froms → length (database f).symbols ≤ length tos → 4 * length (database f).symbols ≤ length sets
       → Shown (bench f syms stmts p limits text) (lent numbers pool stack places locals tree) c m

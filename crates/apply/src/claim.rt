@@ -10,7 +10,6 @@ use memory::stack::push;
 use memory::table::Row;
 use memory::{Counts, Limits, Outcome};
 use packed::images::do_substitute_vars;
-use packed::pool::Grown;
 use packed::substitute::do_substitute;
 
 // The row of the claim at `at`, whose symbols as substituted stand in the pool from `from` up to `to`, with the word of its derivation.
@@ -63,19 +62,13 @@ pub fn finalize_step(
     ensures { Finalizes file.now symbols.now at froms.now tos.now sets.now pool.old stack.old c limits left tag end word nodes pool.new stack.new result }
 {
     let used = c.used;
-    match do_substitute(file, symbols, at, froms, tos, pool, used, limits.pool) {
-        Grown::Full => Outcome::Refused(Refusal::PoolFull),
-        Grown::To(to) => {
-            let row = claim_row(file, symbols, at, sets, used, to, tag, end, word);
-            let now = Counts {
-                used: to,
-                count: c.count,
-                places: c.places,
-                locals: c.locals,
-                depth: c.depth,
-                nodes: nodes,
-            };
-            push(stack, now, limits.stack, left, row)
-        }
-    }
+    let to = do_substitute(file, symbols, at, froms, tos, pool, used, limits.pool)
+        .ok_or(Refusal::PoolFull)?;
+    let row = claim_row(file, symbols, at, sets, used, to, tag, end, word);
+    let now = Counts {
+        used: to,
+        nodes: nodes,
+        ..c
+    };
+    push(stack, now, limits.stack, left, row)
 }

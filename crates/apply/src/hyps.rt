@@ -11,13 +11,6 @@ use memory::table::{Row, row_at};
 use packed::compare::do_substitute_eq;
 use packed::images::bind;
 
-// The hypothesis is as it must be, or the proof is refused.
-#[derive(Clone, Copy)]
-pub enum Processed {
-    Fine,
-    Refused(Refusal),
-}
-
 // The lesser of two numbers.
 fn least(a: usize, b: usize) -> usize
     ensures { (result ≤ b) × (a ≤ b → result ≡ a) }
@@ -51,13 +44,13 @@ fn bind_float(
     froms: &mut [u32],
     tos: &mut [u32],
     sets: &mut [u64],
-) -> Processed
+) -> Result<(), Refusal>
     requires { (row.from ≤ row.to) × (row.to < 4294967296) }
     ensures { BindsFloat file.now at row froms.old tos.old sets.old froms.new tos.new sets.new result }
 {
     let typecode = fields::typecode(file, at);
     if row.head != typecode.0 {
-        return Processed::Refused(Refusal::StepFloatWrongType);
+        return Err(Refusal::StepFloatWrongType);
     }
     let variable = fields::variable(file, at);
     let vars = row.vars;
@@ -70,7 +63,7 @@ fn bind_float(
         row.to as u32,
         vars,
     );
-    Processed::Fine
+    Ok(())
 }
 
 // The $e at `at` must be what the row proves, each variable replaced by its image: 36, 37.
@@ -82,18 +75,18 @@ fn check_essential(
     froms: &[u32],
     tos: &[u32],
     pool: &[u8],
-) -> Processed
+) -> Result<(), Refusal>
     requires { ((row.from ≤ row.to) × (row.to ≤ length pool.now)) × Ranged froms.now tos.now (length pool.now) }
     ensures { ChecksEssential file.now symbols.now at row froms.now tos.now pool.now result }
 {
     let code = fields::typecode(file, at);
     if row.head != code.0 {
-        return Processed::Refused(Refusal::StepEssenWrongType);
+        return Err(Refusal::StepEssenWrongType);
     }
     if do_substitute_eq(file, symbols, at, froms, tos, pool, row.from, row.to) {
-        return Processed::Fine;
+        return Ok(());
     }
-    Processed::Refused(Refusal::StepEssenWrong)
+    Err(Refusal::StepEssenWrong)
 }
 
 // The $f or $e at `at` with its entry.
@@ -106,7 +99,7 @@ fn process_hyp(
     tos: &mut [u32],
     sets: &mut [u64],
     pool: &[u8],
-) -> Processed
+) -> Result<(), Refusal>
     requires { ((row.from ≤ row.to) × ((row.to ≤ length pool.now) × (row.to < 4294967296))) × (Ranged froms.old tos.old (length pool.now) × (length froms.old ≤ length tos.old)) }
     ensures { ProcessesHyp file.now symbols.now at row froms.old tos.old sets.old pool.now froms.new tos.new sets.new result }
 {
@@ -140,19 +133,15 @@ pub fn process_hyps(
     tos: &mut [u32],
     sets: &mut [u64],
     pool: &[u8],
-) -> Processed
+) -> Result<(), Refusal>
     requires { ((used ≤ length pool.now) × ((used < 4294967296) × (base ≤ 1024))) × (Ranged froms.old tos.old used × (length froms.old ≤ length tos.old)) }
     ensures { ProcessesHyps file.now symbols.now statements.now at stack.now base seats.now used froms.old tos.old sets.old pool.now froms.new tos.new sets.new result }
 {
     let n = fields::hypotheses(file, at);
-    let mut j = 0;
-    while j < n {
+    for j in 0..n {
         let row = seat_row(stack, base, seats, j, used);
         let o = fields::statement_offset(statements, fields::hypothesis(file, at, j));
-        match process_hyp(file, symbols, o, row, froms, tos, sets, pool) {
-            Processed::Fine => j += 1,
-            Processed::Refused(why) => return Processed::Refused(why),
-        }
+        process_hyp(file, symbols, o, row, froms, tos, sets, pool)?;
     }
-    Processed::Fine
+    Ok(())
 }

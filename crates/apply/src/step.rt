@@ -5,14 +5,14 @@ ghost use Rattle.apply.specs.Hyps.{Ranged};
 ghost use Rattle.apply.specs.Step.{AppliesChecked, AppliesSeated, Executes};
 
 use crate::claim::finalize_step;
-use crate::hyps::{Processed, process_hyps};
+use crate::hyps::process_hyps;
 use disjoint::keeps::keeps_pairs;
 use frames::fields;
 use frames::numbers::StatementNo;
 use machine::Refusal;
 use memory::{Counts, Limits, Outcome};
 use recording::record_step;
-use seats::{Seated, seat_entries};
+use seats::seat_entries;
 
 // The pairs of the assertion at `at`, then its claim: 38, 43, 45.
 fn apply_checked(
@@ -44,7 +44,7 @@ fn apply_checked(
             nodes,
         );
     }
-    Outcome::Refused(Refusal::ProofDvViolation)
+    Err(Refusal::ProofDvViolation)
 }
 
 // The hypotheses of the assertion at `at`, whose entries are seated, then its pairs and its claim: 35 to 38, 43, 45.
@@ -73,15 +73,13 @@ fn apply_seated(
     ensures { AppliesSeated file.now symbols.now statements.now at table.now seats.now froms.old tos.old sets.old pool.old stack.old c limits left tag end word nodes froms.new tos.new sets.new pool.new stack.new result }
 {
     let used = c.used;
-    match process_hyps(
+    process_hyps(
         file, symbols, statements, at, stack, left, seats, used, froms, tos, sets, pool,
-    ) {
-        Processed::Refused(why) => Outcome::Refused(why),
-        Processed::Fine => apply_checked(
-            file, symbols, statements, at, table, froms, tos, sets, pool, stack, c, limits, left,
-            tag, end, word, nodes,
-        ),
-    }
+    )?;
+    apply_checked(
+        file, symbols, statements, at, table, froms, tos, sets, pool, stack, c, limits, left, tag,
+        end, word, nodes,
+    )
 }
 
 // A step of assertion a, with a mark or none: 32 to 38, 43, 45. (A file that was checked lists at most 64 hypotheses.)
@@ -113,35 +111,31 @@ pub fn execute_step(
     let n = fields::hypotheses(file, at);
     let depth = c.depth;
     if depth < n {
-        return Outcome::Refused(Refusal::ProofUnderflow);
+        return Err(Refusal::ProofUnderflow);
     }
     if 64 < n {
-        return Outcome::Refused(Refusal::ProofUnderflow);
+        return Err(Refusal::ProofUnderflow);
     }
-    match seat_entries(file, statements, at, text, stack, depth - n, n, seats) {
-        Seated::Refused(because) => Outcome::Refused(because),
-        Seated::Done => {
-            let noted = record_step(at, stack, depth - n, seats, n, tree, c.nodes);
-            apply_seated(
-                file,
-                symbols,
-                statements,
-                at,
-                table,
-                seats,
-                froms,
-                tos,
-                sets,
-                pool,
-                stack,
-                c,
-                limits,
-                depth - n,
-                tag,
-                end,
-                noted.word,
-                noted.nodes,
-            )
-        }
-    }
+    seat_entries(file, statements, at, text, stack, depth - n, n, seats)?;
+    let noted = record_step(at, stack, depth - n, seats, n, tree, c.nodes);
+    apply_seated(
+        file,
+        symbols,
+        statements,
+        at,
+        table,
+        seats,
+        froms,
+        tos,
+        sets,
+        pool,
+        stack,
+        c,
+        limits,
+        depth - n,
+        tag,
+        end,
+        noted.word,
+        noted.nodes,
+    )
 }

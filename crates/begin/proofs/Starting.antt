@@ -1,5 +1,6 @@
 -- The start of a run: numbering the mandatory variables and then the members of the pairs numbers the first variables, and the tests of the code are
 -- those of the definition.
+use Rattle.std.proofs.Common.{Ok, Err}
 use Prim.Native.Nat.{ℕ, ◌≤◌, ◌<◌}
 use mathlib.Core.Path.{◌≡◌, refl, sym, ◌∙◌, ap}
 use mathlib.Core.Bool.{true, false}
@@ -24,7 +25,6 @@ use Rattle.resolve.proofs.Filing.{filed-statement}
 use Rattle.tree.specs.Recorded.{start}
 use Rattle.memory.specs.declared.Counts.{Counts}
 use Rattle.memory.specs.declared.Limits.{Limits}
-use Rattle.memory.specs.declared.Outcome.TheVariants.{Go, Refused}
 use Rattle.memory.specs.Shown.{bench, lent, bottom, ends, Shown, goes}
 use Rattle.memory.proofs.Ending.{ends-stop, ends-skip}
 use Rattle.begin.specs.Begins.{Unnumbered, Roomy, Begins}
@@ -86,7 +86,7 @@ module _ {f syms stmts : List ℕ} {p at : ℕ} (w : Filed f syms stmts) (loc : 
 
 module _ {f stmts : List ℕ} {at : ℕ} {text numbers : List ℕ} where
   -- a bad byte
-  pub begins-bad : any bad_byte text ≡ true → Begins f stmts at text numbers numbers (Refused BadByte)
+  pub begins-bad : any bad_byte text ≡ true → Begins f stmts at text numbers numbers (Err BadByte)
   unfolding admitted
   begins-bad bad =
       record {
@@ -98,7 +98,7 @@ module _ {f stmts : List ℕ} {at : ℕ} {text numbers : List ℕ} where
   module _ {between : List ℕ} {mandatory : ℕ} (good : any bad_byte text ≡ false)
       (floats : MapsAll numbers 0 (floats_at f stmts (statement_at f at).hyps) between mandatory) where
     -- more mandatory variables than a good file has
-    pub begins-never : 256 < mandatory → Begins f stmts at text numbers between (Refused TooManyVariables)
+    pub begins-never : 256 < mandatory → Begins f stmts at text numbers between (Err TooManyVariables)
     begins-never many =
         record {
           sized = floats.sized;
@@ -108,7 +108,7 @@ module _ {f stmts : List ℕ} {at : ℕ} {text numbers : List ℕ} where
 
     module _ {numbers' : List ℕ} {count : ℕ} (pairs : MapsAll between mandatory (members (statement_at f at).pairs) numbers' count) where
       -- a 257th variable
-      pub begins-many : 256 < count → Begins f stmts at text numbers numbers' (Refused TooManyVariables)
+      pub begins-many : 256 < count → Begins f stmts at text numbers numbers' (Err TooManyVariables)
       unfolding admitted
       begins-many many =
           record {
@@ -120,7 +120,7 @@ module _ {f stmts : List ℕ} {at : ℕ} {text numbers : List ℕ} where
           }
 
       -- the run goes on
-      pub begins-go : count ≤ 256 → Begins f stmts at text numbers numbers' (Go (begun count))
+      pub begins-go : count ≤ 256 → Begins f stmts at text numbers numbers' (Ok (begun count))
       unfolding admitted fresh locals_of rows
       begins-go few =
           record {

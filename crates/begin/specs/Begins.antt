@@ -1,6 +1,6 @@
 -- The start of a run, said of the definition: for every good file and every memory that is lent blank, the outcome is the definition's, and the
 -- tables show the memory that the run begins with.
-use Rattle.std.specs.Prelude.{ℕ, ◌*◌, ◌≤◌, ◌≡◌, List, length, get_or}
+use Rattle.std.specs.Prelude.{ℕ, ◌*◌, ◌≤◌, ◌≡◌, List, length, get_or, Ok}
 use Rattle.frames.specs.Database.{database}
 use Rattle.machine.specs.Run.{first_variables, admitted}
 use Rattle.packed.specs.Lists.{Located}
@@ -8,8 +8,7 @@ use Rattle.variables.specs.Numbering.{Numbered}
 use Rattle.resolve.specs.Filed.{Filed}
 use Rattle.memory.specs.declared.Counts.{Counts}
 use Rattle.memory.specs.declared.Limits.{Limits}
-use Rattle.memory.specs.declared.Outcome.{Outcome}
-use Rattle.memory.specs.declared.Outcome.TheVariants.{Go}
+use Rattle.memory.specs.Outcome.{Outcome}
 use Rattle.memory.specs.Shown.{bench, lent, Shown, Ends}
 
 -- no variable has a number yet, and each symbol of the file has an entry
@@ -33,5 +32,5 @@ pub record Begins (f stmts : List ℕ) (at : ℕ) (text numbers numbers' : List 
   pub follows : (syms : List ℕ) (p : ℕ) (limits : Limits) (pool stack places locals tree : List ℕ) → Filed f syms stmts → Located f p at
       → Unnumbered f numbers → Roomy limits pool stack places locals tree
       → Ends (Shown (bench f syms stmts p limits text) (lent numbers' pool stack places locals tree)) (admitted (database f) p text) answer
-  pub numbered : (syms : List ℕ) (p : ℕ) (c : Counts) → Filed f syms stmts → Located f p at → Unnumbered f numbers → answer ≡ Go c
+  pub numbered : (syms : List ℕ) (p : ℕ) (c : Counts) → Filed f syms stmts → Located f p at → Unnumbered f numbers → answer ≡ Ok c
       → Numbered numbers' c.count (first_variables (database f) p)

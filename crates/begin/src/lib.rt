@@ -14,18 +14,18 @@ pub fn begin(file: &[u8], statements: &[u32], at: u32, text: &[u8], numbers: &mu
     ensures { Begins file.now statements.now at text.now numbers.old numbers.new result }
 {
     if any_bad(text) {
-        return Outcome::Refused(Refusal::BadByte);
+        return Err(Refusal::BadByte);
     }
     let mandatory = map_floats(file, statements, at, numbers, 0);
     // a good file lists at most 64 hypotheses: this test is for all other bytes
     if 256 < mandatory {
-        return Outcome::Refused(Refusal::TooManyVariables);
+        return Err(Refusal::TooManyVariables);
     }
     let count = map_pairs(file, at, numbers, mandatory);
     if 256 < count {
-        return Outcome::Refused(Refusal::TooManyVariables);
+        return Err(Refusal::TooManyVariables);
     }
-    Outcome::Go(Counts {
+    Ok(Counts {
         used: 0,
         count: count,
         places: 0,

@@ -4,11 +4,9 @@ use mathlib.Core.Path.{◌≡◌, refl, sym, ◌∙◌, ap}
 use mathlib.Core.List.{List}
 use native.Mathlib.Omega.{arith}
 use lib.ListN.{length, take, replicate}
-use Rattle.frames.specs.Verdict.{verdict, index, laid, Checked, number_of}
+use Rattle.frames.specs.Verdict.{verdict, index, laid, Checked, number_of, Verdict, Good, Refused}
 use Rattle.frames.specs.Database.{database, GoodFile}
 use Rattle.frames.specs.declared.Refusal.{Refusal}
-use Rattle.frames.specs.declared.Verdict.{Verdict}
-use Rattle.frames.specs.declared.Verdict.TheVariants.{Good, Refused}
 use Rattle.frames.proofs.Tables.{laid-front, laid-length}
 use Rattle.facts.proofs.Decoded.{database-symbols, database-statements}
 use Rattle.facts.proofs.GoodFacts.{good-facts}

@@ -7,13 +7,11 @@ use mathlib.Core.List.{List}
 use native.Mathlib.Omega.{arith}
 use lib.ListN.{length, get_or-eq_default}
 use Rattle.frames.specs.Logic.{equal, below, pick}
-use Rattle.frames.specs.Verdict.{verdict, index, outcome, refusal, nothing, walk}
+use Rattle.frames.specs.Verdict.{verdict, index, outcome, refusal, nothing, walk, Verdict, Good, Refused}
 use Rattle.frames.specs.Database.{Statement, database, GoodFile}
 use Rattle.frames.specs.Facts.{statement_of}
 use Rattle.frames.specs.declared.Refusal.{Refusal}
 use Rattle.frames.specs.declared.Refusal.TheVariants.{TooMany}
-use Rattle.frames.specs.declared.Verdict.{Verdict}
-use Rattle.frames.specs.declared.Verdict.TheVariants.{Good, Refused}
 use Rattle.frames.proofs.Chains.{equal-true, below_true, below_false}
 use Rattle.facts.proofs.GoodFacts.{good-facts}
 use Rattle.facts.proofs.Kept.{refused-not-good}

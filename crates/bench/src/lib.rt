@@ -11,7 +11,6 @@ ghost use Rattle.bench.specs.Calls.{Verified};
 
 use clearing::{clear_bytes, clear_words64};
 use filecheck::check;
-use frames::Verdict;
 use frames::numbers::StatementNo;
 use label_index::fill;
 use proving::statement::answer_statement;
@@ -72,19 +71,16 @@ fn verify_file(
     let mut symbols = offsets();
     let mut statements = offsets();
     match check(file, &mut symbols, &mut statements) {
-        Verdict::Refused { why, place } => Told {
-            number: frames::number(why),
-            place: place,
+        Err(away) => Told {
+            number: frames::number(away.why),
+            place: away.place,
             steps: 0,
         },
-        Verdict::Good {
-            symbols: n,
-            statements: k,
-        } => {
+        Ok(sizes) => {
             verify_checked(
                 file,
-                &symbols[..n],
-                &statements[..k],
+                &symbols[..sizes.symbols],
+                &statements[..sizes.statements],
                 StatementNo(p),
                 pool,
                 stack,

@@ -1,4 +1,5 @@
 -- Every answer of the two calls fits into one number, and no two outcomes keep what they promise.
+use Rattle.std.proofs.Common.{Ok}
 use Prim.Native.Nat.{ℕ, zero, suc, ◌+◌, ◌≤◌, ◌<◌}
 use mathlib.Core.Path.{◌≡◌, refl, sym, ◌∙◌, ap}
 use mathlib.Core.Bool.{Bool, true, false}
@@ -7,12 +8,10 @@ use native.Mathlib.Omega.{arith}
 use lib.ListN.{length}
 use Rattle.bitset.specs.Sets.{keep}
 use Rattle.frames.specs.Logic.{equal}
-use Rattle.frames.specs.Verdict.{number_of, verdict}
+use Rattle.frames.specs.Verdict.{number_of, verdict, Verdict, Good, Refused}
 use Rattle.frames.specs.Database.{Database, database}
 use Rattle.frames.specs.Facts.{statement_of}
 use Rattle.frames.specs.declared.Refusal.{Refusal}
-use Rattle.frames.specs.declared.Verdict.{Verdict}
-use Rattle.frames.specs.declared.Verdict.TheVariants as verdicts
 use Rattle.facts.proofs.GoodFacts.{good-facts}
 use Rattle.facts.proofs.Unique.{good-answer}
 use Rattle.machine.proofs.Numbers.{file-number}
@@ -21,9 +20,7 @@ use Rattle.told.specs.declared.Told.{Told}
 use Rattle.told.specs.Says.{Says}
 use Rattle.bench.specs.Calls.{room_in, Verified}
 use Rattle.bench.proofs.Small.{answer-small, refused-place}
-use Rattle.walk.specs.declared.Walked.{Walked}
-use Rattle.walk.specs.declared.Walked.TheVariants.{Refused, Answered}
-use Rattle.walk.specs.Walk.{provable_from, provable, word_of, answer_word, walked_of, WalksAll}
+use Rattle.walk.specs.Walk.{Walked, Refused, provable_from, provable, word_of, answer_word, walked_of, WalksAll}
 use Rattle.bench_c.specs.Words.{VerifiedWord, walked_word, AllWords}
 
 module _ {f : List ℕ} {p : ℕ} {pool stack places pool' stack' places' : List ℕ} {t : Told}
@@ -50,7 +47,7 @@ provable-few db zero n = omega arith
 provable-few db (suc k) n = keep-few (equal (statement_of db n).kind 5) n k (provable_from db k (n + 1)) (provable-few db k (n + 1))
 
 module _ (f : List ℕ) where
-  all-few : {n k : ℕ} → verdict f ≡ verdicts.Good n k → length (provable (database f)) ≤ 4096
+  all-few : {n k : ℕ} → verdict f ≡ Good n k → length (provable (database f)) ≤ 4096
   unfolding provable
   all-few {n} {k} e =
       let few = (good-facts f (good-answer f n k e).0).statement_count in
@@ -58,18 +55,18 @@ module _ (f : List ℕ) where
       omega arith
 
   -- what the walk answers is small
-  count_small : (v : Verdict) {count : ℕ} → verdict f ≡ v → Answered count ≡ walked_of v (database f) → count < 4294967296
+  count_small : (v : Verdict) {count : ℕ} → verdict f ≡ v → Ok count ≡ walked_of v (database f) → count < 4294967296
   unfolding walked_of
-  count_small (verdicts.Good n k) {count} e is =
+  count_small (Good n k) {count} e is =
       let few = all-few e in
       let same : count ≡ length (provable (database f)) = cc in
       omega arith
-  count_small (verdicts.Refused why at) e is = let z : ◌≡◌ {A = ℕ} 0 1 = cc in absurd (omega arith)
+  count_small (Refused why at) e is = let z : ◌≡◌ {A = ℕ} 0 1 = cc in absurd (omega arith)
 
   place_small : (v : Verdict) {why : Refusal} {at : ℕ} → verdict f ≡ v → Refused why at ≡ walked_of v (database f) → at ≤ 1048576
   unfolding walked_of
-  place_small (verdicts.Good n k) e is = let z : ◌≡◌ {A = ℕ} 0 1 = cc in absurd (omega arith)
-  place_small (verdicts.Refused why' at') {why} {at} e is =
+  place_small (Good n k) e is = let z : ◌≡◌ {A = ℕ} 0 1 = cc in absurd (omega arith)
+  place_small (Refused why' at') {why} {at} e is =
       let small = refused-place f why' at' e in
       let same : at ≡ at' = cc in
       omega arith
@@ -83,7 +80,7 @@ module _ {f pool stack places answers pool' stack' places' answers' : List ℕ} 
       let s = place_small f (verdict f) refl (sym is ∙ w.answered.counts) in
       (omega (arith, r.1), (omega arith, omega arith))
 
-  pub answered-small : {count : ℕ} → walked ≡ Answered count → (0 < 256) × ((0 < 16777216) × (count < 4294967296))
+  pub answered-small : {count : ℕ} → walked ≡ Ok count → (0 < 256) × ((0 < 16777216) × (count < 4294967296))
   answered-small is = (omega arith, (omega arith, count_small f (verdict f) refl (sym is ∙ w.answered.counts)))
 
   walked-word : {word : ℕ} → word ≡ walked_word walked → AllWords f pool stack places answers pool' stack' places' answers' word
@@ -94,7 +91,7 @@ module _ {f pool stack places answers pool' stack' places' answers' : List ℕ} 
   unfolding walked_word
   refused-word {why} {at} is e word_is = walked-word (word_is ∙ rw (is, e) refl)
 
-  pub answered-word : {count word : ℕ} → walked ≡ Answered count → word ≡ packed_answer 0 0 count
+  pub answered-word : {count word : ℕ} → walked ≡ Ok count → word ≡ packed_answer 0 0 count
       → AllWords f pool stack places answers pool' stack' places' answers' word
   unfolding walked_word
   answered-word is word_is = walked-word (word_is ∙ rw is refl)

@@ -1,15 +1,12 @@
 -- The calls' answers as one number each.
-use Rattle.std.specs.Prelude.{ℕ, ◌≡◌, length, List}
+use Rattle.std.specs.Prelude.{ℕ, ◌≡◌, length, List, Ok, Err}
 use Rattle.clearing.specs.Cleared.{cleared}
-use Rattle.frames.specs.Verdict.{laid}
+use Rattle.frames.specs.Verdict.{laid, number_of, verdict}
 use Rattle.postorder.specs.LongForm.{LongAnswer, long_answer}
-use Rattle.frames.specs.Verdict.{number_of, verdict}
 use Rattle.frames.specs.Database.{database}
 use Rattle.answers.specs.Packed.{packed_answer}
 use Rattle.bench.specs.Calls.{room_in, Zeroed}
-use Rattle.walk.specs.declared.Walked.{Walked}
-use Rattle.walk.specs.declared.Walked.TheVariants.{Refused, Answered}
-use Rattle.walk.specs.Walk.{answer_word, answer_words, walked_of, laid_answers}
+use Rattle.walk.specs.Walk.{Walked, answer_word, answer_words, walked_of, laid_answers}
 
 -- one statement: its answer as one number, and nothing is left in what was lent
 pub record VerifiedWord (f : List ℕ) (p : ℕ) (pool stack places pool' stack' places' : List ℕ) (word : ℕ) : Type 0 where
@@ -18,8 +15,8 @@ pub record VerifiedWord (f : List ℕ) (p : ℕ) (pool stack places pool' stack'
 
 -- number and place of a refusal of the file; or 0, 0 and how many $p there are
 unfoldable pub walked_word : Walked → ℕ
-walked_word (Refused why place) = packed_answer (number_of why) place 0
-walked_word (Answered count) = packed_answer 0 0 count
+walked_word (Err away) = packed_answer (number_of away.why) away.place 0
+walked_word (Ok count) = packed_answer 0 0 count
 
 -- all $p: how many there are, the answer of each, and nothing is left in what was lent
 pub record AllWords (f pool stack places answers pool' stack' places' answers' : List ℕ) (word : ℕ) : Type 0 where

@@ -12,7 +12,6 @@ ghost use Rattle.std.specs.Prelude.{◌≡◌, ◌<◌};
 ghost use Rattle.bench_c.specs.Words.{VerifiedWord, AllWords, LongWord};
 
 use answers::pack;
-use walk::Walked;
 
 // One statement.
 #[unsafe(no_mangle)]
@@ -41,8 +40,8 @@ pub extern "C" fn bench_verify_all(
     ensures { AllWords file.now pool.old stack.old places.old answers.old pool.new stack.new places.new answers.new result }
 {
     match walk::verify_all(file, pool, stack, places, answers) {
-        Walked::Refused { why, place } => pack(frames::number(why), place, 0),
-        Walked::Answered(count) => pack(0, 0, count),
+        Err(away) => pack(frames::number(away.why), away.place, 0),
+        Ok(count) => pack(0, 0, count),
     }
 }
 

@@ -1,4 +1,5 @@
 -- The end of a proof: the row that is left stands for the one entry, and the code's comparisons are the definition's.
+use Rattle.std.proofs.Common.{Ok, Err}
 use Prim.Native.Nat.{ℕ, ◌≤◌, ◌<◌}
 use mathlib.Core.Path.{◌≡◌, refl, sym, ◌∙◌}
 use mathlib.Core.Bool.{Bool, true, false}
@@ -25,16 +26,15 @@ use Rattle.memory.specs.declared.Counts.{Counts}
 use Rattle.memory.specs.Table.{RowAt}
 use Rattle.memory.specs.Shown.{Bench, Lent, Down, bottom, over, Means, EntryShown, Shown}
 use Rattle.memory.proofs.Tables.{row_one}
-use Rattle.ends.specs.declared.end.Ended.{Ended}
-use Rattle.ends.specs.declared.end.Ended.TheVariants.{Accepted, Refused}
+use Rattle.machine.specs.Passed.{Passed}
 use Rattle.ends.specs.End.{HoldsClaim, IsClaim, EndsAs, accepts, refuses, ChecksEnd}
 
 -- a test that holds refuses; one that does not is passed
-end-stop : {t : Bool} {why : Refusal} (rest : Result Proved) → t ≡ true → EndsAs (unless t why rest) (Refused why)
+end-stop : {t : Bool} {why : Refusal} (rest : Result Proved) → t ≡ true → EndsAs (unless t why rest) (Err why)
 unfolding unless
 end-stop rest e = rw e refuses
 
-end-skip : {t : Bool} {rest : Result Proved} {answer : Ended} (why : Refusal) → t ≡ false → EndsAs rest answer → EndsAs (unless t why rest) answer
+end-skip : {t : Bool} {rest : Result Proved} {answer : Passed} (why : Refusal) → t ≡ false → EndsAs rest answer → EndsAs (unless t why rest) answer
 unfolding unless
 end-skip why e x = rw e x
 
@@ -48,11 +48,11 @@ module _ (f : List ℕ) (at : ℕ) (row : Row) {code : ℕ} (is : code ≡ get_o
   unfolding typecode
   same_code e = equal-yes (e ∙ is)
 
-  pub claim-other : {syms pool : List ℕ} → (row.head ≡ code → ⊥) → IsClaim f syms at row pool (Refused ProofWrongTypeEnd)
+  pub claim-other : {syms pool : List ℕ} → (row.head ≡ code → ⊥) → IsClaim f syms at row pool (Err ProofWrongTypeEnd)
   claim-other n = record { other = λ e. refl; alike = λ e. absurd (true-not-false e (other-code n)) }
 
   pub claim-alike : {syms pool : List ℕ} {holds : Bool} → row.head ≡ code → HoldsClaim f syms at row pool holds
-      → IsClaim f syms at row pool (pick holds Accepted (Refused ProofWrongExprEnd))
+      → IsClaim f syms at row pool (pick holds (Ok tt) (Err ProofWrongExprEnd))
   claim-alike {holds = holds} e h =
       record { other = λ n. absurd (true-not-false (same_code e) n); alike = λ a. (holds, h, refl) }
 
@@ -70,7 +70,7 @@ module _ {f syms : List ℕ} {at : ℕ} {row : Row} {pool : List ℕ} where
   holds-never n = record { compares = λ rises within. absurd (n rises within) }
 
   -- what the row stands for, against the claim
-  claim-judged : {stmts vs : List ℕ} {p used : ℕ} (x : Proved) {answer : Ended} → Filed f syms stmts → Located f p at → used ≤ length pool
+  claim-judged : {stmts vs : List ℕ} {p used : ℕ} (x : Proved) {answer : Passed} → Filed f syms stmts → Located f p at → used ≤ length pool
       → Means (database f) vs pool used row x.expression → IsClaim f syms at row pool answer → EndsAs (is_claim (expression_of (database f) p) x) answer
   unfolding is_claim pick
   claim-judged {p = p} x {answer = answer} w loc large means is = by_code (equal row.head (typecode (statement_at f at))) refl
@@ -79,7 +79,7 @@ module _ {f syms : List ℕ} {at : ℕ} {row : Row} {pool : List ℕ} where
       codes = code_of row.head x.expression loc means.typecode
 
       by-symbols : (holds : Bool) → holds ≡ same x.expression.symbols (expression_of (database f) p).symbols
-          → EndsAs (unless (no (same x.expression.symbols (expression_of (database f) p).symbols)) ProofWrongExprEnd (fine x)) (pick holds Accepted (Refused ProofWrongExprEnd))
+          → EndsAs (unless (no (same x.expression.symbols (expression_of (database f) p).symbols)) ProofWrongExprEnd (fine x)) (pick holds (Ok tt) (Err ProofWrongExprEnd))
       by-symbols true e = end-skip ProofWrongExprEnd (no-of-true (sym e)) accepts
       by-symbols false e = end-stop _ (no-of-false (sym e))
 
@@ -93,26 +93,26 @@ module _ {f syms : List ℕ} {at : ℕ} {row : Row} {pool : List ℕ} where
 
 module _ {f syms : List ℕ} {at : ℕ} {stack pool : List ℕ} {c : Counts} where
   -- no entry is left
-  pub ends-none : c.depth ≡ 0 → ChecksEnd f syms at stack pool c (Refused ProofNoSteps)
+  pub ends-none : c.depth ≡ 0 → ChecksEnd f syms at stack pool c (Err ProofNoSteps)
   unfolding only_entry
   ends-none nothing = record { follows = λ stmts b l m file-is stack_is pool-is w loc s. none (expression_of (database f) b.asked) nothing s.stack }
     where
-      none : {P : ℕ → Entry → Type 0} {n : ℕ} {es : List Entry} (claim : Expression) → n ≡ 0 → Down P n es → EndsAs (only_entry claim es) (Refused ProofNoSteps)
+      none : {P : ℕ → Entry → Type 0} {n : ℕ} {es : List Entry} (claim : Expression) → n ≡ 0 → Down P n es → EndsAs (only_entry claim es) (Err ProofNoSteps)
       none claim e bottom = refuses
       none claim e (over g p d) = absurd (omega arith)
 
   -- more than one is left
-  pub ends-many : 1 < c.depth → ChecksEnd f syms at stack pool c (Refused ProofExcessEnd)
+  pub ends-many : 1 < c.depth → ChecksEnd f syms at stack pool c (Err ProofExcessEnd)
   unfolding only_entry
   ends-many more = record { follows = λ stmts b l m file-is stack_is pool-is w loc s. many (expression_of (database f) b.asked) more s.stack }
     where
-      many : {P : ℕ → Entry → Type 0} {n : ℕ} {es : List Entry} (claim : Expression) → 1 < n → Down P n es → EndsAs (only_entry claim es) (Refused ProofExcessEnd)
+      many : {P : ℕ → Entry → Type 0} {n : ℕ} {es : List Entry} (claim : Expression) → 1 < n → Down P n es → EndsAs (only_entry claim es) (Err ProofExcessEnd)
       many claim e bottom = absurd (omega arith)
       many claim e (over g p bottom) = absurd (omega arith)
       many claim e (over g p (over h q d)) = refuses
 
   -- one is left
-  pub ends-one : {row : Row} {answer : Ended} → c.depth ≡ 1 → RowAt stack 0 row → IsClaim f syms at row pool answer → ChecksEnd f syms at stack pool c answer
+  pub ends-one : {row : Row} {answer : Passed} → c.depth ≡ 1 → RowAt stack 0 row → IsClaim f syms at row pool answer → ChecksEnd f syms at stack pool c answer
   unfolding only_entry
   ends-one {row} {answer} single there is =
       record { follows = λ stmts b l m file-is stack_is pool-is w loc s. one stmts b l m file-is stack_is pool-is w loc s single s.stack }

@@ -1,4 +1,5 @@
 -- The local label of a step: what was saved shows one label more, which has the place that the top took.
+use Rattle.std.proofs.Common.{Some, None, Ok, Err}
 use Prim.Native.Nat.{ℕ, ◌+◌, ◌≤◌}
 use mathlib.Core.Path.{◌≡◌, refl, sym, ◌∙◌, ap}
 use mathlib.Core.Bool.{Bool, true, false}
@@ -13,12 +14,9 @@ use Rattle.machine.specs.declared.Refusal.TheVariants.{LocalLabelDuplicate, Plac
 use Rattle.machine.specs.Chain.{fine, stop, unless}
 use Rattle.machine.specs.Memory.{Room, recalls, Entry, Memory, save_top, add_place, place_of, is_some, add_local, give_local}
 use Rattle.packed.specs.Pool.{range}
-use Rattle.resolve.specs.Locals.{locals_of, place_found, AddsLocal}
-use Rattle.resolve.specs.declared.locals.FoundPlace.{FoundPlace}
-use Rattle.resolve.specs.declared.locals.FoundPlace.TheVariants.{Place, NoPlace}
+use Rattle.resolve.specs.Locals.{locals_of, place_found, AddsLocal, FoundPlace}
 use Rattle.memory.specs.declared.Counts.{Counts}
-use Rattle.memory.specs.declared.Outcome.{Outcome}
-use Rattle.memory.specs.declared.Outcome.TheVariants.{Go, Refused}
+use Rattle.memory.specs.Outcome.{Outcome}
 use Rattle.memory.specs.Shown.{Bench, Lent, Shown, Ends, goes, refuses, placed, with_places_table, SavesTop}
 use Rattle.memory.proofs.Ending.{ends-stop, ends-skip, ends-go, ends-refused}
 use Rattle.ends.specs.Local.{LaysLocal, with_locals, labelled, SavesLabelled, with_labelled, GivesLocal}
@@ -116,13 +114,13 @@ found-there label s text_is locals_is finds = rw (s.locals, text_is, locals_is) 
 module _ {text stack locals places : List ℕ} {from to : ℕ} {c : Counts} {limit : ℕ} {found : FoundPlace}
     (finds : place_of (range from to text) (locals_of text locals c.locals) ≡ place_found found) where
   -- there is one of the same bytes
-  pub gives-duplicate : {k : PlaceNo} → found ≡ Place k → GivesLocal text from to stack locals places c limit locals places (Refused LocalLabelDuplicate)
+  pub gives-duplicate : {k : PlaceNo} → found ≡ Some k → GivesLocal text from to stack locals places c limit locals places (Err LocalLabelDuplicate)
   unfolding give_local place_found is_some
   gives-duplicate is =
       record { follows = λ b l m text_is limit_is stack_is locals_is places_is s. ends-stop _ (ap is_some (found-there (range from to text) s text_is locals_is finds ∙ ap place_found is)) }
 
   -- there is none: the top takes its place
-  pub gives-new : {locals' places' : List ℕ} {answer : Outcome} → found ≡ NoPlace → LaysLocal locals c from to locals'
+  pub gives-new : {locals' places' : List ℕ} {answer : Outcome} → found ≡ None → LaysLocal locals c from to locals'
       → SavesLabelled stack places c limit places' answer → GivesLocal text from to stack locals places c limit locals' places' answer
   unfolding give_local place_found is_some labelled
   gives-new {locals'} {places'} {answer} is lays saves =
@@ -135,7 +133,7 @@ module _ {text stack locals places : List ℕ} {from to : ℕ} {c : Counts} {lim
       by-saved : (b : Bench) (l : Lent) (m : Memory) → b.text ≡ text → l.locals ≡ locals → Shown b l c m → (o : Outcome) → answer ≡ labelled (c.locals + 1) o
           → Ends (Shown b (with_places_table l places')) (save_top b.room m m.stack) o
           → Ends (Shown b (with_labelled l locals' places')) (save_top b.room (add_local m (range from to text)) m.stack) answer
-      by-saved b l m text_is locals_is s (Go c') e ends =
+      by-saved b l m text_is locals_is s (Ok c') e ends =
           let go = ends-go ends in
           let saved = saved-go b.room m (range from to text) m.stack go.1 in
           let one = saved.1 in
@@ -146,5 +144,5 @@ module _ {text stack locals places : List ℕ} {from to : ℕ} {c : Counts} {lim
           let limit = go.2.places_limit in
           let shown = shown-labelled {locals' = locals'} from to (range from to text) (ap (range from to) (sym text_is)) s go.2 one (rw locals_is (lays.lays (omega arith))) in
           rw (e, saved.0) (goes shown)
-      by-saved b l m text_is locals_is s (Refused why) e ends =
+      by-saved b l m text_is locals_is s (Err why) e ends =
           rw (e, saved-stop b.room m (range from to text) m.stack (ends-refused ends)) refuses

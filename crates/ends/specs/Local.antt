@@ -1,12 +1,11 @@
 -- The local label of a normal step: what is laid, what is saved, and which result of the definition the answer is.
-use Rattle.std.specs.Prelude.{ℕ, ◌+◌, ◌<◌, ◌≡◌, List, length}
+use Rattle.std.specs.Prelude.{ℕ, ◌+◌, ◌<◌, ◌≡◌, List, length, Ok, Err}
 use Rattle.std.proofs.Math.Option.{some}
 use Rattle.machine.specs.Memory.{Memory, give_local}
 use Rattle.packed.specs.Pool.{range}
 use Rattle.resolve.specs.Locals.{AddsLocal}
 use Rattle.memory.specs.declared.Counts.{Counts}
-use Rattle.memory.specs.declared.Outcome.{Outcome}
-use Rattle.memory.specs.declared.Outcome.TheVariants.{Go, Refused}
+use Rattle.memory.specs.Outcome.{Outcome}
 use Rattle.memory.specs.Shown.{Bench, Lent, lent, Shown, Ends, SavesTop}
 
 -- one more local label, with the next place, where the table has room for it
@@ -20,8 +19,8 @@ with_locals c n = record { used = c.used; count = c.count; places = c.places; lo
 
 -- an outcome that goes on with n local labels
 unfoldable pub labelled : ℕ → Outcome → Outcome
-labelled n (Go c) = Go (with_locals c n)
-labelled n (Refused why) = Refused why
+labelled n (Ok c) = Ok (with_locals c n)
+labelled n (Err why) = Err why
 
 -- the top is saved, and there is one more local label
 pub record SavesLabelled (stack places : List ℕ) (c : Counts) (limit : ℕ) (places' : List ℕ) (answer : Outcome) : Type 0 where

@@ -8,13 +8,6 @@ use memory::Counts;
 use memory::table::{Row, row_at};
 use packed::compare::raw_eq;
 
-// The claim is proved, or the proof is refused.
-#[derive(Clone, Copy)]
-pub enum Ended {
-    Accepted,
-    Refused(Refusal),
-}
-
 // Whether the symbols of a row are those of the statement at `at`.
 fn holds_claim(file: &[u8], symbols: &[u32], at: u32, row: Row, pool: &[u8]) -> bool
     ensures { HoldsClaim file.now symbols.now at row pool.now result }
@@ -29,17 +22,17 @@ fn holds_claim(file: &[u8], symbols: &[u32], at: u32, row: Row, pool: &[u8]) -> 
 }
 
 // Whether a row is the claim at `at`: 41, 42.
-fn is_claim(file: &[u8], symbols: &[u32], at: u32, row: Row, pool: &[u8]) -> Ended
+fn is_claim(file: &[u8], symbols: &[u32], at: u32, row: Row, pool: &[u8]) -> Result<(), Refusal>
     ensures { IsClaim file.now symbols.now at row pool.now result }
 {
     let typecode = fields::typecode(file, at);
     if row.head != typecode.0 {
-        return Ended::Refused(Refusal::ProofWrongTypeEnd);
+        return Err(Refusal::ProofWrongTypeEnd);
     }
     if holds_claim(file, symbols, at, row, pool) {
-        return Ended::Accepted;
+        return Ok(());
     }
-    Ended::Refused(Refusal::ProofWrongExprEnd)
+    Err(Refusal::ProofWrongExprEnd)
 }
 
 // The end of the proof of the statement at `at`: 40 where no entry is left, 39 where more than one is, then 41 and 42.
@@ -50,15 +43,15 @@ pub fn check_end(
     stack: &[u64],
     pool: &[u8],
     c: Counts,
-) -> Ended
+) -> Result<(), Refusal>
     ensures { ChecksEnd file.now symbols.now at stack.now pool.now c result }
 {
     let depth = c.depth;
     if depth == 0 {
-        return Ended::Refused(Refusal::ProofNoSteps);
+        return Err(Refusal::ProofNoSteps);
     }
     if 1 < depth {
-        return Ended::Refused(Refusal::ProofExcessEnd);
+        return Err(Refusal::ProofExcessEnd);
     }
     let row = row_at(stack, 0);
     is_claim(file, symbols, at, row, pool)

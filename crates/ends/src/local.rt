@@ -6,7 +6,7 @@ ghost use Rattle.ends.specs.Local.{LaysLocal, SavesLabelled, GivesLocal};
 use machine::Refusal;
 use memory::stack::save_top;
 use memory::{Counts, Outcome};
-use resolve::locals::{FoundPlace, add_local, between, find_local};
+use resolve::locals::{add_local, between, find_local};
 
 // Lays the local label with the next place, where the table has room: where it has none, no place is left either.
 fn lay_local(locals: &mut [u32], c: Counts, from: u32, to: u32)
@@ -24,17 +24,11 @@ fn save_labelled(stack: &[u64], places: &mut [u64], c: Counts, limit: usize) -> 
     requires { ((10 * limit ≤ length places.old) × (limit ≤ 4096)) × ((c.depth ≤ 1024) × (c.locals ≤ 4096)) }
     ensures { SavesLabelled stack.now places.old c limit places.new result }
 {
-    match save_top(stack, places, c, limit) {
-        Outcome::Refused(why) => Outcome::Refused(why),
-        Outcome::Go(now) => Outcome::Go(Counts {
-            used: now.used,
-            count: now.count,
-            places: now.places,
-            locals: c.locals + 1,
-            depth: now.depth,
-            nodes: now.nodes,
-        }),
-    }
+    let now = save_top(stack, places, c, limit)?;
+    Ok(Counts {
+        locals: c.locals + 1,
+        ..now
+    })
 }
 
 // After a step: the local label from `from` up to `to` in the text is 27 where there is one of the same bytes, else the top is saved as its place.
@@ -56,11 +50,9 @@ pub fn give_local(
     let begins = from as u32;
     let ends = to as u32;
     let count = c.locals;
-    match find_local(text, locals, count, between(text, begins, ends)) {
-        FoundPlace::Place(_) => Outcome::Refused(Refusal::LocalLabelDuplicate),
-        FoundPlace::NoPlace => {
-            lay_local(locals, c, begins, ends);
-            save_labelled(stack, places, c, limit)
-        }
+    if find_local(text, locals, count, between(text, begins, ends)).is_some() {
+        return Err(Refusal::LocalLabelDuplicate);
     }
+    lay_local(locals, c, begins, ends);
+    save_labelled(stack, places, c, limit)
 }

@@ -1,4 +1,5 @@
 -- Preparing a hypothesis: the code's tests are those of the definition, on the counts that the tables hold.
+use Rattle.std.proofs.Common.{Some, None, Err}
 use Prim.Native.Nat.{ℕ, ◌+◌, ◌-◌, ◌≤◌, ◌<◌}
 use mathlib.Core.Path.{◌≡◌, refl, sym, ◌∙◌, ap}
 use mathlib.Core.Bool.{Bool, true, false}
@@ -18,15 +19,13 @@ use Rattle.machine.specs.Prepare.{numbered_by, ready, spend, leaf_of, prepare_hy
 use Rattle.packed.specs.Packing.{packed}
 use Rattle.packed.specs.Pool.{range}
 use Rattle.packed.specs.Lists.{Indexed, Located, Spells}
-use Rattle.packed.specs.declared.pool.Grown.TheVariants.{To, Full}
 use Rattle.packed.proofs.Packs.{pack-length}
 use Rattle.packed.proofs.Written.{range-written}
 use Rattle.packed.proofs.Joining.{grown-of-to, grown-of-full}
 use Rattle.variables.specs.Numbering.{Numbered, Maps}
 use Rattle.resolve.proofs.Filing.{located-statement}
 use Rattle.engine.specs.Hypothesis.{MapsFloat, result_of, Prepares}
-use Rattle.engine.specs.declared.hypothesis.Prepared.TheVariants.{Refused}
-use Rattle.engine.specs.declared.hypothesis.Prepared.TheVariants as prepared
+use Rattle.engine.specs.Prepared.{Made}
 
 chain-stop : {A : Type 0} {t : Bool} {why : Refusal} (rest : Result A) → t ≡ true → unless t why rest ≡ stop why
 unfolding unless
@@ -65,7 +64,7 @@ module _ (f syms : List ℕ) (at : ℕ) (table : List ℕ) (count : ℕ) (pool :
       rw st (m.maps vs (rw st at inside) n)
 
   -- a 257th variable
-  pub prepares-many : 256 < count' → Prepares f syms at table count pool used limit table' pool (Refused TooManyVariables)
+  pub prepares-many : 256 < count' → Prepares f syms at table count pool used limit table' pool (Err TooManyVariables)
   unfolding prepare_hypothesis result_of
   prepares-many many =
       record {
@@ -83,8 +82,8 @@ module _ (f syms : List ℕ) (at : ℕ) (table : List ℕ) (count : ℕ) (pool :
 
   module _ {pool' : List ℕ} (few : count' ≤ 256) (fits : limit ≤ length pool) (same_size : length pool' ≡ length pool) where
     -- no room in the pool
-    pub prepares-full : Spells f syms at used limit pool pool' Full → take used pool' ≡ take used pool → drop limit pool' ≡ drop limit pool
-        → Prepares f syms at table count pool used limit table' pool' (Refused PoolFull)
+    pub prepares-full : Spells f syms at used limit pool pool' None → take used pool' ≡ take used pool → drop limit pool' ≡ drop limit pool
+        → Prepares f syms at table count pool used limit table' pool' (Err PoolFull)
     unfolding prepare_hypothesis result_of
     prepares-full spells kept past =
         record {
@@ -103,8 +102,8 @@ module _ (f syms : List ℕ) (at : ℕ) (table : List ℕ) (count : ℕ) (pool :
         }
 
     -- it is ready
-    pub prepares-ready : {end : ℕ} → used ≤ end → end ≤ limit → Spells f syms at used limit pool pool' (To end) → take used pool' ≡ take used pool → drop limit pool' ≡ drop limit pool
-        → Prepares f syms at table count pool used limit table' pool' (prepared.Ready end count')
+    pub prepares-ready : {end : ℕ} → used ≤ end → end ≤ limit → Spells f syms at used limit pool pool' (Some end) → take used pool' ≡ take used pool → drop limit pool' ≡ drop limit pool
+        → Prepares f syms at table count pool used limit table' pool' (Made end count')
     unfolding prepare_hypothesis result_of
     prepares-ready {end} low high spells kept past =
         record {

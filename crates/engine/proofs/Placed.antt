@@ -1,4 +1,5 @@
 -- The step at a place: there is none (31), it recalls, or it applies an assertion.
+use Rattle.std.proofs.Common.{Err}
 use Prim.Native.Nat.{ℕ, ◌*◌, zero, suc, ◌+◌, ◌≤◌, ◌<◌}
 use mathlib.Core.Path.{◌≡◌, refl, sym, ◌∙◌, ap}
 use mathlib.Core.List.{List, [], ◌∷◌, cons-ne-nil}
@@ -15,8 +16,7 @@ use Rattle.resolve.specs.Filed.{Filed}
 use Rattle.memory.specs.declared.table.Row.{Row}
 use Rattle.memory.specs.declared.Counts.{Counts}
 use Rattle.memory.specs.declared.Limits.{Limits}
-use Rattle.memory.specs.declared.Outcome.{Outcome}
-use Rattle.memory.specs.declared.Outcome.TheVariants.{Refused}
+use Rattle.memory.specs.Outcome.{Outcome}
 use Rattle.memory.specs.Table.{RowAt}
 use Rattle.memory.specs.Shown.{Bench, Lent, room_of, bench, lent, mark_of, Along, Means, PlaceShown, recalled, applied, NodePlaced, Shown, Ends, refuses, Pushes}
 use Rattle.memory.proofs.Tables.{row_one, row-four}
@@ -72,7 +72,7 @@ marked-means tag end m =
 
 module _ {f syms stmts text table froms tos sets pool stack tree places : List ℕ} {k : ℕ} {c : Counts} {limits : Limits} {tag end : ℕ} where
   pub runs-out : Ranged froms tos c.used → c.places ≤ k
-      → RunsPlace f syms stmts text table froms tos sets pool stack tree places k c limits tag end froms tos sets pool stack tree (Refused StepOutOfRange)
+      → RunsPlace f syms stmts text table froms tos sets pool stack tree places k c limits tag end froms tos sets pool stack tree (Err StepOutOfRange)
   unfolding bind prepare_place
   runs-out r past =
       record {

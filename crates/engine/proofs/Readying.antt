@@ -1,4 +1,5 @@
 -- A hypothesis that takes a place or is pushed: what was prepared is shown, and then a row more.
+use Rattle.std.proofs.Common.{Ok, Err}
 use Prim.Native.Nat.{ℕ, ◌+◌, ◌-◌, ◌*◌, ◌≤◌, ◌<◌}
 use mathlib.Core.Path.{◌≡◌, refl, sym, ◌∙◌, ap}
 use mathlib.Core.Bool.{Bool, true, false}
@@ -22,8 +23,7 @@ use Rattle.resolve.specs.Resolve.{Supposable}
 use Rattle.memory.specs.declared.table.Row.{Row}
 use Rattle.memory.specs.declared.Counts.{Counts}
 use Rattle.memory.specs.declared.Limits.{Limits}
-use Rattle.memory.specs.declared.Outcome.{Outcome}
-use Rattle.memory.specs.declared.Outcome.TheVariants.{Go, Refused}
+use Rattle.memory.specs.Outcome.{Outcome}
 use Rattle.memory.specs.Shown.{room_of, bench, lent, mark_of, Shown, refuses, recalled, NodePlaced, with_pool, with_used, with_places, Pushes, AddsPlace}
 use Rattle.memory.proofs.Tables.{row_new}
 use Rattle.memory.proofs.Stored.{push-used}
@@ -32,7 +32,7 @@ use Rattle.tree.specs.Recorded.{hypothesis}
 use Rattle.memory.proofs.Ending.{push-ends, records-none, place-ends}
 use Rattle.engine.specs.Hypothesis.{result_of, Prepares}
 use Rattle.engine.specs.Ready.{LeafRow, PlacesHypothesis, PushesHypothesis}
-use Rattle.engine.specs.declared.hypothesis.Prepared.TheVariants as prepared
+use Rattle.engine.specs.Prepared.{Made}
 use Rattle.engine.proofs.Leaves.{by-grows, leaf-means}
 
 -- the variable of a $f has its place in the table of numbers
@@ -44,17 +44,17 @@ float-inside db h n facts there sized is =
 
 -- where a place is taken there was room, and the counts have one place more
 pub place-counts : {places : List ℕ} {c : Counts} {limit : ℕ} {row : Row} {places' : List ℕ} {answer : Outcome} → AddsPlace places c limit row places' answer
-    → (c' : Counts) → answer ≡ Go c' → (c.places < limit) × (c' ≡ with_places c (c.places + 1))
+    → (c' : Counts) → answer ≡ Ok c' → (c.places < limit) × (c' ≡ with_places c (c.places + 1))
 unfolding pick
 place-counts {c = c} {limit} adds c' e = tried (at_most limit c.places) refl (sym adds.answers ∙ e)
   where
-    tried : (t : Bool) → at_most limit c.places ≡ t → pick t (Refused PlacesFull) (Go (with_places c (c.places + 1))) ≡ Go c'
+    tried : (t : Bool) → at_most limit c.places ≡ t → pick t (Err PlacesFull) (Ok (with_places c (c.places + 1))) ≡ Ok c'
         → (c.places < limit) × (c' ≡ with_places c (c.places + 1))
     tried true f q = let z : ◌≡◌ {A = ℕ} 0 1 = cc in absurd (omega arith)
     tried false f q = (at_most-false _ _ f, cc)
 
 module _ {f syms : List ℕ} {at : ℕ} {numbers pool : List ℕ} {c : Counts} {limits : Limits} {numbers' pool' : List ℕ} where
-  module _ {why : Refusal} (prep : Prepares f syms at numbers c.count pool c.used limits.pool numbers' pool' (prepared.Refused why)) where
+  module _ {why : Refusal} (prep : Prepares f syms at numbers c.count pool c.used limits.pool numbers' pool' (Err why)) where
     refused-is : (stmts : List ℕ) (p : ℕ) (text stack places locals tree : List ℕ) (h : ℕ) (m : Memory) → Indexed f syms → Located f h at
         → Shown (bench f syms stmts p limits text) (lent numbers pool stack places locals tree) c m
         → prepare_hypothesis (database f) (room_of limits) m h ≡ stop why
@@ -63,7 +63,7 @@ module _ {f syms : List ℕ} {at : ℕ} {numbers pool : List ℕ} {c : Counts} {
         prep.follows h m (room_of limits) ix loc refl s.pool
         (float-inside (database f) h (length numbers) (good-facts f ix.good) loc.there s.numbers_sized) s.numbered
 
-    pub places-refused : (places : List ℕ) → PlacesHypothesis f syms at numbers pool places c limits numbers' pool' places (Refused why)
+    pub places-refused : (places : List ℕ) → PlacesHypothesis f syms at numbers pool places c limits numbers' pool' places (Err why)
     unfolding bind
     places-refused places =
         record {
@@ -72,7 +72,7 @@ module _ {f syms : List ℕ} {at : ℕ} {numbers pool : List ℕ} {c : Counts} {
               rw (refused-is stmts p text stack places locals tree h m ix loc s) refuses;
         }
 
-    pub pushes-refused : (stack : List ℕ) (tag end : ℕ) → PushesHypothesis f syms at numbers pool stack c limits tag end numbers' pool' stack (Refused why)
+    pub pushes-refused : (stack : List ℕ) (tag end : ℕ) → PushesHypothesis f syms at numbers pool stack c limits tag end numbers' pool' stack (Err why)
     unfolding bind
     pushes-refused stack tag end =
         record {
@@ -81,7 +81,7 @@ module _ {f syms : List ℕ} {at : ℕ} {numbers pool : List ℕ} {c : Counts} {
               rw (refused-is stmts p text stack places locals tree h m ix loc s) refuses;
         }
 
-  module _ {to count' tag end : ℕ} {row : Row} (prep : Prepares f syms at numbers c.count pool c.used limits.pool numbers' pool' (prepared.Ready to count'))
+  module _ {to count' tag end : ℕ} {row : Row} (prep : Prepares f syms at numbers c.count pool c.used limits.pool numbers' pool' (Made to count'))
       (few : count' ≤ 256) (rises : c.used ≤ to) (room : to ≤ limits.pool) (pool_sized : length pool' ≡ length pool)
       (leaf : LeafRow f syms numbers' at c.used to tag end row) where
     module _ (stmts : List ℕ) (p : ℕ) (text stack places locals tree : List ℕ) (h : ℕ) (m : Memory) (ix : Indexed f syms) (asked : p < length (database f).statements)

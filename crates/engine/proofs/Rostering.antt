@@ -1,4 +1,5 @@
 -- What takes places before the letters of a compressed proof: an assertion, a roster label, and the listed hypotheses one after another.
+use Rattle.std.proofs.Common.{Ok, Err}
 use Prim.Native.Nat.{ℕ, zero, suc, ◌+◌, ◌≤◌, ◌<◌}
 use mathlib.Core.Path.{◌≡◌, refl, sym, ◌∙◌, ap}
 use mathlib.Core.Logic.{inr}
@@ -17,17 +18,14 @@ use Rattle.machine.specs.Chain.{Result, bind}
 use Rattle.machine.specs.Memory.{Memory, applies}
 use Rattle.machine.specs.Prepare.{ready, add_ready, prepare_hypothesis, prepare_roster, preload}
 use Rattle.packed.specs.Lists.{Located}
-use Rattle.resolve.specs.declared.PreparedStep.{PreparedStep}
-use Rattle.resolve.specs.declared.PreparedStep.TheVariants.{Place, Hypothesis, Frame}
-use Rattle.resolve.specs.declared.PreparedStep.TheVariants as steps
+use Rattle.resolve.specs.Readied.{Readied, Place, Hypothesis, Frame}
 use Rattle.resolve.specs.Filed.{Filed}
 use Rattle.resolve.specs.Resolve.{readied, Supposable, PreparesLabel}
 use Rattle.resolve.proofs.Filing.{located-statement, filed-indexed, filed-located}
 use Rattle.memory.specs.declared.table.Row.{Row}
 use Rattle.memory.specs.declared.Counts.{Counts}
 use Rattle.memory.specs.declared.Limits.{Limits}
-use Rattle.memory.specs.declared.Outcome.{Outcome}
-use Rattle.memory.specs.declared.Outcome.TheVariants.{Go, Refused}
+use Rattle.memory.specs.Outcome.{Outcome}
 use Rattle.memory.specs.Shown.{room_of, bench, lent, applied, Shown, Ends, goes, refuses, AddsPlace}
 use Rattle.memory.proofs.Tables.{row_new}
 use Rattle.memory.proofs.Ending.{ends_by, ends-go, ends-refused, place-ends}
@@ -53,14 +51,14 @@ located-at : {f syms stmts : List ℕ} {h at : ℕ} → Filed f syms stmts → h
 located-at {h = h} w there e = rw e (filed-located w h there)
 
 -- a roster label, by what it names
-named : {f syms stmts : List ℕ} {p : ℕ} {label : List ℕ} {step s : PreparedStep} (limits : Limits) (m : Memory) → PreparesLabel f stmts p label step → step ≡ s
+named : {f syms stmts : List ℕ} {p : ℕ} {label : List ℕ} {step s : Readied} (limits : Limits) (m : Memory) → PreparesLabel f stmts p label step → step ≡ s
     → Filed f syms stmts → p < length (database f).statements
     → prepare_roster (database f) p (room_of limits) m label ≡ bind (readied (database f) (room_of limits) m s) (add_ready (room_of limits))
 unfolding prepare_roster
 named {f} {syms} limits m prep e w asked =
     ap (λ r. bind r (add_ready (room_of limits))) (prep.follows syms (room_of limits) m w asked ∙ ap (readied (database f) (room_of limits) m) e)
 
-module _ {f syms stmts : List ℕ} {p : ℕ} {label : List ℕ} {step : PreparedStep} (prep : PreparesLabel f stmts p label step)
+module _ {f syms stmts : List ℕ} {p : ℕ} {label : List ℕ} {step : Readied} (prep : PreparesLabel f stmts p label step)
     {numbers pool places : List ℕ} {c : Counts} {limits : Limits} where
   -- a $f or $e
   pub roster-hypothesis : {h : StatementNo} {at : ℕ} {numbers' pool' places' : List ℕ} {answer : Outcome} → step ≡ Hypothesis h → at ≡ get_or stmts h.0 0
@@ -100,8 +98,8 @@ module _ {f syms stmts : List ℕ} {p : ℕ} {label : List ℕ} {step : Prepared
       }
 
   -- 25, 29, 30
-  pub roster-refused : {why : Refusal} → step ≡ steps.Refused why
-      → PreparesRoster f syms stmts p label numbers pool places c limits numbers pool places (Refused why)
+  pub roster-refused : {why : Refusal} → step ≡ Err why
+      → PreparesRoster f syms stmts p label numbers pool places c limits numbers pool places (Err why)
   unfolding readied bind
   roster-refused e =
       record {
@@ -196,7 +194,7 @@ module _ {f syms stmts : List ℕ} {at : ℕ} {limits : Limits} {numbers₀ pool
           sym reached.left ∙ (ap (λ hs. preload (database f) (room_of limits) hs reached.memory) (rw (sym is) at here)
           ∙ ap (λ r. bind r (preload (database f) (room_of limits) (drop (i + 1) (statement_at f at).hyps))) e)
 
-    pub preload-more : {c' : Counts} → answer ≡ Go c' → length numbers' ≡ length numbers₀ → length pool' ≡ length pool₀ → length places' ≡ length places₀
+    pub preload-more : {c' : Counts} → answer ≡ Ok c' → length numbers' ≡ length numbers₀ → length pool' ≡ length pool₀ → length places' ≡ length places₀
         → Preloading f syms stmts at limits numbers₀ pool₀ places₀ c₀ (i + 1) numbers' pool' places' c'
     unfolding bind
     preload-more {c'} e numbers_sized pool_sized places_sized =
@@ -212,7 +210,7 @@ module _ {f syms stmts : List ℕ} {at : ℕ} {limits : Limits} {numbers₀ pool
         }
 
     -- 44, 43, 46
-    pub preload-stop : {why : Refusal} → answer ≡ Refused why → Preloads f syms stmts at numbers₀ pool₀ places₀ c₀ limits numbers' pool' places' (Refused why)
+    pub preload-stop : {why : Refusal} → answer ≡ Err why → Preloads f syms stmts at numbers₀ pool₀ places₀ c₀ limits numbers' pool' places' (Err why)
     unfolding bind
     preload-stop e =
         record {
@@ -223,7 +221,7 @@ module _ {f syms stmts : List ℕ} {at : ℕ} {limits : Limits} {numbers₀ pool
         }
 
   -- all of them have a place
-  pub preload-done : length (statement_at f at).hyps ≤ i → Preloads f syms stmts at numbers₀ pool₀ places₀ c₀ limits numbers pool places (Go c)
+  pub preload-done : length (statement_at f at).hyps ≤ i → Preloads f syms stmts at numbers₀ pool₀ places₀ c₀ limits numbers pool places (Ok c)
   unfolding preload
   preload-done done =
       record {

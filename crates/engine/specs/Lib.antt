@@ -1,5 +1,6 @@
 -- What the buffers of the engine show.
 pub mod RawSet
+pub mod Prepared
 pub mod Hypothesis
 pub mod Ready
 pub mod Place

@@ -1,5 +1,5 @@
 -- A step by its place: which result of the definition the answer is, for every memory that the tables show.
-use Rattle.std.specs.Prelude.{ℕ, ◌*◌, ◌≤◌, ◌<◌, ◌≡◌, List, length}
+use Rattle.std.specs.Prelude.{ℕ, ◌*◌, ◌≤◌, ◌<◌, ◌≡◌, List, length, Ok}
 use Rattle.frames.specs.Database.{database}
 use Rattle.machine.specs.Chain.{bind}
 use Rattle.machine.specs.Memory.{Memory}
@@ -9,8 +9,7 @@ use Rattle.resolve.specs.Filed.{Filed}
 use Rattle.memory.specs.declared.table.Row.{Row}
 use Rattle.memory.specs.declared.Counts.{Counts}
 use Rattle.memory.specs.declared.Limits.{Limits}
-use Rattle.memory.specs.declared.Outcome.{Outcome}
-use Rattle.memory.specs.declared.Outcome.TheVariants.{Go}
+use Rattle.memory.specs.Outcome.{Outcome}
 use Rattle.memory.specs.Shown.{room_of, bench, lent, mark_of, Shown, Ends}
 use Rattle.apply.specs.Hyps.{Ranged}
 use Rattle.apply.specs.Step.{Under}
@@ -28,7 +27,7 @@ pub record RunsPlace (f syms stmts text table froms tos sets pool stack tree pla
   pub tos_sized : length tos' ≡ length tos
   pub sets_sized : length sets' ≡ length sets
   pub tree_sized : length tree' ≡ length tree
-  pub grows : (c' : Counts) → answer ≡ Go c' → c.used ≤ c'.used
+  pub grows : (c' : Counts) → answer ≡ Ok c' → c.used ≤ c'.used
   pub follows : (p : ℕ) (numbers locals : List ℕ) (m : Memory) → Filed f syms stmts → p < length (database f).statements → Under f p table
       → length (database f).symbols ≤ length froms → length (database f).symbols ≤ length tos → 4 * length (database f).symbols ≤ length sets
       → Shown (bench f syms stmts p limits text) (lent numbers pool stack places locals tree) c m

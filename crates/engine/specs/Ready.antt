@@ -1,5 +1,5 @@
 -- What making a hypothesis ready and putting it to use does, said of the definition of a run, for every memory that the tables show.
-use Rattle.std.specs.Prelude.{ℕ, ◌+◌, ◌*◌, ◌≤◌, ◌<◌, ◌≡◌, List, length, drop}
+use Rattle.std.specs.Prelude.{ℕ, ◌+◌, ◌*◌, ◌≤◌, ◌<◌, ◌≡◌, List, length, drop, Ok}
 use Rattle.frames.specs.Layout.{symbols_at}
 use Rattle.frames.specs.Database.{database, statement_at}
 use Rattle.frames.specs.Facts.{typecode}
@@ -12,8 +12,7 @@ use Rattle.resolve.specs.Resolve.{Supposable}
 use Rattle.memory.specs.declared.table.Row.{Row}
 use Rattle.memory.specs.declared.Counts.{Counts}
 use Rattle.memory.specs.declared.Limits.{Limits}
-use Rattle.memory.specs.declared.Outcome.{Outcome}
-use Rattle.memory.specs.declared.Outcome.TheVariants.{Go}
+use Rattle.memory.specs.Outcome.{Outcome}
 use Rattle.memory.specs.Shown.{room_of, bench, lent, mark_of, Shown, Ends}
 use Rattle.engine.specs.RawSet.{RawGathered}
 
@@ -45,7 +44,7 @@ pub record Taken (limits : Limits) (c : Counts) (n : ℕ) (c' : Counts) : Type 0
 -- it takes the next place as the definition says
 pub record PlacesHypothesis (f syms : List ℕ) (at : ℕ) (numbers pool places : List ℕ) (c : Counts) (limits : Limits)
     (numbers' pool' places' : List ℕ) (answer : Outcome) : Type 0 where
-  pub taken : (c' : Counts) → answer ≡ Go c' → Taken limits c 1 c'
+  pub taken : (c' : Counts) → answer ≡ Ok c' → Taken limits c 1 c'
   pub follows : (stmts : List ℕ) (p : ℕ) (text stack locals tree : List ℕ) (h : ℕ) (m : Memory) → Indexed f syms → p < length (database f).statements → Located f h at
       → Supposable (database f) p h
       → Shown (bench f syms stmts p limits text) (lent numbers pool stack places locals tree) c m
@@ -55,7 +54,7 @@ pub record PlacesHypothesis (f syms : List ℕ) (at : ℕ) (numbers pool places 
 -- it is pushed as the definition says
 pub record PushesHypothesis (f syms : List ℕ) (at : ℕ) (numbers pool stack : List ℕ) (c : Counts) (limits : Limits) (tag end : ℕ)
     (numbers' pool' stack' : List ℕ) (answer : Outcome) : Type 0 where
-  pub grows : (c' : Counts) → answer ≡ Go c' → c.used ≤ c'.used
+  pub grows : (c' : Counts) → answer ≡ Ok c' → c.used ≤ c'.used
   pub follows : (stmts : List ℕ) (p : ℕ) (text places locals tree : List ℕ) (h : ℕ) (m : Memory) → Indexed f syms → p < length (database f).statements → Located f h at
       → Supposable (database f) p h
       → Shown (bench f syms stmts p limits text) (lent numbers pool stack places locals tree) c m

@@ -5,15 +5,14 @@ ghost use Rattle.engine.specs.Hypothesis.{MapsFloat, Prepares};
 
 use frames::fields;
 use machine::Refusal;
-use packed::pool::Grown;
 use packed::substitute::do_substitute_raw;
 use variables::map_var;
 
-// How far the pool is used and how many variables have a number, or why the hypothesis is refused.
-#[derive(Clone, Copy)]
-pub enum Prepared {
-    Ready { used: usize, count: u32 },
-    Refused(Refusal),
+// A hypothesis that is ready: how far the pool is used and how many variables have a number.
+#[derive(Clone, Copy, Debug, PartialEq, Eq)]
+pub struct Ready {
+    pub used: usize,
+    pub count: u32,
 }
 
 // Numbers the variable of the statement at `at`, if it is a $f.
@@ -38,19 +37,18 @@ pub fn prepare_hypothesis(
     pool: &mut [u8],
     used: usize,
     limit: usize,
-) -> Prepared
+) -> Result<Ready, Refusal>
     requires { (count < 1000) × ((used ≤ limit) × (limit ≤ length pool.old)) }
     ensures { Prepares file.now symbols.now at numbers.old count pool.old used limit numbers.new pool.new result }
 {
     let c = map_float(file, at, numbers, count);
     if 256 < c {
-        return Prepared::Refused(Refusal::TooManyVariables);
+        return Err(Refusal::TooManyVariables);
     }
-    match do_substitute_raw(file, symbols, at, pool, used, limit) {
-        Grown::To(end) => Prepared::Ready {
-            used: end,
-            count: c,
-        },
-        Grown::Full => Prepared::Refused(Refusal::PoolFull),
-    }
+    let end =
+        do_substitute_raw(file, symbols, at, pool, used, limit).ok_or(Refusal::PoolFull)?;
+    Ok(Ready {
+        used: end,
+        count: c,
+    })
 }

@@ -55,7 +55,7 @@ pub fn run_place(
 {
     let n = k.0;
     if c.places <= n {
-        return Outcome::Refused(Refusal::StepOutOfRange);
+        return Err(Refusal::StepOutOfRange);
     }
     let row = row_at(places, n);
     if row.tag == 0 {
@@ -108,7 +108,7 @@ pub fn run_unmarked(
 {
     let n = k.0;
     if c.places <= n {
-        return Outcome::Refused(Refusal::StepOutOfRange);
+        return Err(Refusal::StepOutOfRange);
     }
     let row = row_at(places, n);
     if row.tag == 0 {

@@ -3,7 +3,7 @@
 ghost use Rattle.std.specs.Prelude.{◌*◌, ◌≤◌, ◌<◌, length};
 ghost use Rattle.engine.specs.Ready.{LeafRow, PlacesHypothesis, PushesHypothesis};
 
-use crate::hypothesis::{Prepared, prepare_hypothesis};
+use crate::hypothesis::prepare_hypothesis;
 use crate::raw_set::raw_set;
 use frames::fields;
 use memory::stack::{add_place, push};
@@ -52,21 +52,14 @@ pub fn place_hypothesis(
     ensures { PlacesHypothesis file.now symbols.now at numbers.old pool.old places.old c limits numbers.new pool.new places.new result }
 {
     let used = c.used;
-    match prepare_hypothesis(file, symbols, at, numbers, c.count, pool, used, limits.pool) {
-        Prepared::Refused(why) => Outcome::Refused(why),
-        Prepared::Ready { used: to, count } => {
-            let row = leaf_row(file, symbols, numbers, at, used, to, 0, 0);
-            let now = Counts {
-                used: to,
-                count: count,
-                places: c.places,
-                locals: c.locals,
-                depth: c.depth,
-                nodes: c.nodes,
-            };
-            add_place(places, now, limits.places, row)
-        }
-    }
+    let ready = prepare_hypothesis(file, symbols, at, numbers, c.count, pool, used, limits.pool)?;
+    let row = leaf_row(file, symbols, numbers, at, used, ready.used, 0, 0);
+    let now = Counts {
+        used: ready.used,
+        count: ready.count,
+        ..c
+    };
+    add_place(places, now, limits.places, row)
 }
 
 // The hypothesis at `at` is pushed, with a mark or none: 44, 43, 45.
@@ -87,19 +80,12 @@ pub fn push_hypothesis(
     ensures { PushesHypothesis file.now symbols.now at numbers.old pool.old stack.old c limits tag end numbers.new pool.new stack.new result }
 {
     let from = c.used;
-    match prepare_hypothesis(file, symbols, at, numbers, c.count, pool, from, limits.pool) {
-        Prepared::Refused(because) => Outcome::Refused(because),
-        Prepared::Ready { used: upto, count } => {
-            let leaf = leaf_row(file, symbols, numbers, at, from, upto, tag, end);
-            let next = Counts {
-                used: upto,
-                count: count,
-                places: c.places,
-                locals: c.locals,
-                depth: c.depth,
-                nodes: c.nodes,
-            };
-            push(stack, next, limits.stack, c.depth, leaf)
-        }
-    }
+    let ready = prepare_hypothesis(file, symbols, at, numbers, c.count, pool, from, limits.pool)?;
+    let leaf = leaf_row(file, symbols, numbers, at, from, ready.used, tag, end);
+    let next = Counts {
+        used: ready.used,
+        count: ready.count,
+        ..c
+    };
+    push(stack, next, limits.stack, c.depth, leaf)
 }

@@ -51,15 +51,14 @@ pub fn prepare_roster(
     requires places { (10 * limits.places ≤ length places.old) × (limits.places ≤ 4096) }
     ensures { PreparesRoster file.now symbols.now statements.now p.0 label.now numbers.old pool.old places.old c limits numbers.new pool.new places.new result }
 {
-    match prepare_label(file, statements, labels, p, label) {
+    match prepare_label(file, statements, labels, p, label)? {
         PreparedStep::Hypothesis(h) => {
             let at = fields::statement_offset(statements, h);
             place_hypothesis(file, symbols, at, numbers, pool, places, c, limits)
         }
         PreparedStep::Frame(a) => place_frame(places, a, c, limits.places),
-        PreparedStep::Refused(why) => Outcome::Refused(why),
         // a roster label names no place
-        PreparedStep::Place(_) => Outcome::Refused(Refusal::StepMissing),
+        PreparedStep::Place(_) => Err(Refusal::StepMissing),
     }
 }
 
@@ -81,16 +80,9 @@ pub fn preload(
 {
     let n = fields::hypotheses(file, at);
     let mut now = c;
-    let mut i = 0;
-    while i < n {
+    for i in 0..n {
         let o = fields::statement_offset(statements, fields::hypothesis(file, at, i));
-        match place_hypothesis(file, symbols, o, numbers, pool, places, now, limits) {
-            Outcome::Go(next) => {
-                now = next;
-                i += 1;
-            }
-            Outcome::Refused(why) => return Outcome::Refused(why),
-        }
+        now = place_hypothesis(file, symbols, o, numbers, pool, places, now, limits)?;
     }
-    Outcome::Go(now)
+    Ok(now)
 }

@@ -7,10 +7,8 @@ use lib.ListN.{replicate}
 use Rattle.frames.specs.Logic.{below, at_most, equal, pick, either, both, no, one_of, all, any, rising_from, same, rows}
 use Rattle.frames.specs.Layout.{byte, u16, u32, length_at, kind_at, next_at, fixed_size, asserts, supposes, lists_symbols, is_statement, class_at, scope_end_at, hyp_count, pair_count, listed_count, lists_from, pairs_from, listed_from, rest_from, rest_size, rest_at, hyps_at, pair_at, pairs_at, symbol_count, symbols_from, symbols_at, typecode_at, variable_at}
 use Rattle.frames.specs.Table.{unknown_kind, bad_rest, no_symbols, cut_short, off_layout, bad_record, too_many, name_byte, label_byte, named, used, bad_symbol, bad_label, class_of, constant, variable, within, active, defined, variables, bad_numbers, bad_reference, float_of, float_below, has_float, symbol_given, all_given, lacks_float, second_float, equal_members, bad_assertion, bad_frame, no_proof}
-use Rattle.frames.specs.Verdict.{nothing, unless, fault_at, after, refusal, end_verdict, at_end, decided, walk, outcome, verdict}
+use Rattle.frames.specs.Verdict.{nothing, unless, fault_at, after, refusal, end_verdict, at_end, decided, walk, outcome, verdict, Verdict, Good, Refused}
 use Rattle.frames.specs.declared.Refusal.TheVariants.{BadRecord, TooMany, BadSymbol, BadLabel, BadReference, BadFrame, NoProof}
-use Rattle.frames.specs.declared.Verdict.{Verdict}
-use Rattle.frames.specs.declared.Verdict.TheVariants.{Good, Refused}
 
 -- the constants `|-`, `T` and `U`, and the variable `x`
 abbrev turnstile : List ℕ

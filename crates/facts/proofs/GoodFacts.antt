@@ -6,11 +6,10 @@ use mathlib.Core.Bool.{false}
 use mathlib.Core.List.{List}
 use lib.ListN.{length}
 use Rattle.frames.specs.Logic.{below}
-use Rattle.frames.specs.Verdict.{Index, nothing, refusal, walk, outcome, verdict, index}
+use Rattle.frames.specs.Verdict.{Index, nothing, refusal, walk, outcome, verdict, index, Good}
 use Rattle.frames.specs.Database.{symbol_at, statement_at, decode, database, GoodFile}
 use Rattle.frames.specs.Facts.{Facts, FileFacts}
 use Rattle.frames.specs.declared.Refusal.TheVariants.{TooMany}
-use Rattle.frames.specs.declared.Verdict.TheVariants.{Good}
 use Rattle.frames.proofs.Chains.{below_false}
 use Rattle.facts.proofs.Kept.{pick-cases, refused-not-good}
 use Rattle.frames.proofs.Fine.{record-well-formed}

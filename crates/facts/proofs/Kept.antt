@@ -1,5 +1,6 @@
 -- The one induction over the walk. A property of outcomes holds of the walk's if it holds at the end of the file and at a
 -- faulty record, wherever an invariant holds that each faultless record keeps. So an invariant holds of a good file's index.
+use Rattle.std.proofs.Common.{Some, None}
 use Prim.Native.Nat.{ℕ, zero, suc, ◌+◌, ◌<◌}
 use mathlib.Core.Path.{◌≡◌, refl}
 use mathlib.Core.Bool.{Bool, true, false}
@@ -8,14 +9,10 @@ use native.Mathlib.Omega.{arith}
 use lib.ListN.{length}
 use Rattle.frames.specs.Logic.{below, at_most, pick}
 use Rattle.frames.specs.Layout.{next_at}
-use Rattle.frames.specs.Verdict.{Index, nothing, Outcome, fault_at, after, refusal, end_verdict, at_end, decided, walk, outcome, verdict, index}
+use Rattle.frames.specs.Verdict.{Index, nothing, Outcome, fault_at, after, refusal, end_verdict, at_end, decided, walk, outcome, verdict, index, Fault, Verdict, Good, Refused}
 use Rattle.frames.specs.Database.{GoodFile}
 use Rattle.frames.specs.declared.Refusal.{Refusal}
 use Rattle.frames.specs.declared.Refusal.TheVariants.{TooMany, NoProof}
-use Rattle.frames.specs.declared.Fault.{Fault}
-use Rattle.frames.specs.declared.Fault.TheVariants.{Fine, Is}
-use Rattle.frames.specs.declared.Verdict.{Verdict}
-use Rattle.frames.specs.declared.Verdict.TheVariants.{Good, Refused}
 use Rattle.frames.proofs.Chains.{at_most-false}
 use Rattle.frames.proofs.Fine.{Faultless, fault-fine}
 
@@ -30,11 +27,11 @@ module _ (f : List ℕ) (Inv : Index → ℕ → Type 0) (P : Outcome → Type 0
     (stops : (ix : Index) (o : ℕ) (why : Refusal) → o < length f → Inv ix o → P (refusal why o ix))
     (goes : (ix : Index) (o : ℕ) → o < length f → Inv ix o → Faultless f ix.symbols ix.statements ix.owed o
     → Inv (after f ix o) (next_at f o)) where
-  decided-is : (v : Fault) (ix : Index) (o : ℕ) (rest : Outcome) → o < length f → Inv ix o → (v ≡ Fine → P rest)
+  decided-is : (v : Fault) (ix : Index) (o : ℕ) (rest : Outcome) → o < length f → Inv ix o → (v ≡ None → P rest)
       → P (decided v o ix rest)
   unfolding decided
-  decided-is Fine ix o rest h i later = later refl
-  decided-is (Is why) ix o rest h i later = stops ix o why h i
+  decided-is None ix o rest h i later = later refl
+  decided-is (Some why) ix o rest h i later = stops ix o why h i
 
   pub walk_is : (k : ℕ) (ix : Index) (o : ℕ) → Inv ix o → P (walk k f ix o)
   unfolding walk

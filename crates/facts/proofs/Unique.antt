@@ -7,12 +7,10 @@ use mathlib.Core.List.{List}
 use native.Mathlib.Omega.{arith}
 use lib.ListN.{length}
 use Rattle.frames.specs.Logic.{below}
-use Rattle.frames.specs.Verdict.{Index, nothing, refusal, end_verdict, at_end, outcome, verdict, index, Checked}
+use Rattle.frames.specs.Verdict.{Index, nothing, refusal, end_verdict, at_end, outcome, verdict, index, Checked, Verdict, Good, Refused}
 use Rattle.frames.specs.Database.{database, GoodFile}
 use Rattle.frames.specs.declared.Refusal.{Refusal}
 use Rattle.frames.specs.declared.Refusal.TheVariants.{TooMany, NoProof}
-use Rattle.frames.specs.declared.Verdict.{Verdict}
-use Rattle.frames.specs.declared.Verdict.TheVariants.{Good, Refused}
 use Rattle.facts.proofs.Kept.{pick-cases, walk_is, refused-not-good}
 use Rattle.facts.proofs.Decoded.{symbols-length, statements-length}
 

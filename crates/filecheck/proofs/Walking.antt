@@ -1,6 +1,7 @@
 -- The invariant of the walk over a file's records: what the definition makes of the records from here on, with what has been
 -- read, is what it makes of the whole file. The laws say that it holds at the start, after a good record, and what follows
 -- from it at a fault and at the end.
+use Rattle.std.proofs.Common.{Some, None}
 use Prim.Native.Nat.{ℕ, zero, suc, ◌+◌, ◌≤◌, ◌<◌}
 use mathlib.Core.Path.{◌≡◌, refl, sym, ap, ◌∙◌}
 use mathlib.Core.Bool.{true, false}
@@ -10,15 +11,10 @@ use native.Mathlib.Omega.{arith}
 use lib.ListN.{length, take}
 use Rattle.frames.specs.Logic.{equal}
 use Rattle.frames.specs.Layout.{kind_at, next_at, is_statement}
-use Rattle.frames.specs.Verdict.{Index, nothing, fault_at, after, refusal, end_verdict, at_end, decided, walk, outcome, verdict, index, laid}
-use Rattle.frames.specs.Verdict.{Checked}
+use Rattle.frames.specs.Verdict.{Index, nothing, fault_at, after, refusal, end_verdict, at_end, decided, walk, outcome, verdict, index, laid, Checked, Fault, Verdict, Refused}
 use Rattle.filecheck.specs.Walk.{Advanced}
 use Rattle.frames.specs.declared.Refusal.{Refusal}
 use Rattle.frames.specs.declared.Refusal.TheVariants.{TooMany}
-use Rattle.frames.specs.declared.Fault.{Fault}
-use Rattle.frames.specs.declared.Fault.TheVariants.{Fine, Is}
-use Rattle.frames.specs.declared.Verdict.{Verdict}
-use Rattle.frames.specs.declared.Verdict.TheVariants.{Refused}
 use Rattle.filecheck.specs.declared.Walk.{Walk}
 use Rattle.frames.proofs.Chains.{pick_first, pick_second, below-yes, below-no, at_most-yes, at_most-no, equal-true}
 use Rattle.frames.proofs.Fine.{fine-next, fine-moves, fine-symbol-room, fine-statement-room}
@@ -116,7 +112,7 @@ module _ (f syms stmts syms' stmts' : List ℕ) (st : Walk) (w : Walking f syms 
       settled v (sym (walk_end w.fuel f w.ix st.at h) ∙ ap (λ x. record { verdict = x; index = w.ix }) (sym g))
 
   pub walking-stops : st.at < length f → (why : Refusal)
-      → Is why ≡ fault_at f (take st.symbols syms') (take st.statements stmts') st.owed st.at
+      → Some why ≡ fault_at f (take st.symbols syms') (take st.statements stmts') st.owed st.at
       → Checked f syms stmts syms' stmts' (Refused why st.at)
   unfolding decided refusal
   walking-stops h why e =
@@ -125,21 +121,21 @@ module _ (f syms stmts syms' stmts' : List ℕ) (st : Walk) (w : Walking f syms 
       (sym (walk-record w.fuel f w.ix st.at h) ∙ ap (λ x. decided x st.at w.ix rest) (sym (fault-here e)))
 
   -- a good record ends inside the file, past its kind
-  pub next-inside : Fine ≡ fault_at f (take st.symbols syms') (take st.statements stmts') st.owed st.at
+  pub next-inside : None ≡ fault_at f (take st.symbols syms') (take st.statements stmts') st.owed st.at
       → next_at f st.at ≤ length f
   next-inside e = fine-next f w.ix.symbols w.ix.statements w.ix.owed st.at (sym (fault-here e))
 
-  pub next-further : Fine ≡ fault_at f (take st.symbols syms') (take st.statements stmts') st.owed st.at
+  pub next-further : None ≡ fault_at f (take st.symbols syms') (take st.statements stmts') st.owed st.at
       → st.at + 6 ≤ next_at f st.at
   next-further e = fine-moves f w.ix.symbols w.ix.statements w.ix.owed st.at (sym (fault-here e))
 
   -- a good record is passed
   pub walking-more : 4096 ≤ length syms → 4096 ≤ length stmts → st.at < length f
-      → Fine ≡ fault_at f (take st.symbols syms') (take st.statements stmts') st.owed st.at
+      → None ≡ fault_at f (take st.symbols syms') (take st.statements stmts') st.owed st.at
       → (syms'' stmts'' : List ℕ) (st' : Walk) → Advanced f syms' stmts' st syms'' stmts'' st' → Walking f syms stmts syms'' stmts'' st'
   unfolding after decided
   walking-more hs ht h e syms'' stmts'' st' a =
-      let g : fault_at f w.ix.symbols w.ix.statements w.ix.owed st.at ≡ Fine = sym (fault-here e) in
+      let g : fault_at f w.ix.symbols w.ix.statements w.ix.owed st.at ≡ None = sym (fault-here e) in
       let next = next-inside e in
       let moves = next-further e in
       let room_s : equal (kind_at f st.at) 1 ≡ true → length w.ix.symbols < 4096

@@ -10,39 +10,39 @@ ghost use Rattle.frames.specs.Verdict.{Checked};
 ghost use Rattle.filecheck.specs.Walk.{Advanced};
 
 use frames::record::{is_statement, kind_at, next_at};
-use frames::{Fault, Refusal, Verdict};
+use frames::{Refusal, Sizes, TurnedAway, Verdict};
 use rows::{bad_frame, bad_label, bad_record, bad_reference, bad_symbol, no_proof, too_many};
 
 // What is wrong with the record at `at`: the lowest number whose row holds.
-fn fault(file: &[u8], symbols: &[u32], statements: &[u32], owed: bool, at: u32) -> Fault
+fn fault(file: &[u8], symbols: &[u32], statements: &[u32], owed: bool, at: u32) -> Option<Refusal>
     ensures { result ≡ fault_at file.now symbols.now statements.now owed at }
 {
     if bad_record(file, at) {
-        return Fault::Is(Refusal::BadRecord);
+        return Some(Refusal::BadRecord);
     }
     if too_many(file, symbols, statements, at) {
-        return Fault::Is(Refusal::TooMany);
+        return Some(Refusal::TooMany);
     }
     if bad_symbol(file, symbols, at) {
-        return Fault::Is(Refusal::BadSymbol);
+        return Some(Refusal::BadSymbol);
     }
     if bad_label(file, statements, at) {
-        return Fault::Is(Refusal::BadLabel);
+        return Some(Refusal::BadLabel);
     }
     if bad_reference(file, symbols, statements, at) {
-        return Fault::Is(Refusal::BadReference);
+        return Some(Refusal::BadReference);
     }
     if bad_frame(file, symbols, statements, at) {
-        return Fault::Is(Refusal::BadFrame);
+        return Some(Refusal::BadFrame);
     }
     if no_proof(file, owed, at) {
-        return Fault::Is(Refusal::NoProof);
+        return Some(Refusal::NoProof);
     }
-    Fault::Fine
+    None
 }
 
 // The same, on the parts of the two tables that are in use.
-fn judge(file: &[u8], symbols: &[u32], statements: &[u32], st: Walk) -> Fault
+fn judge(file: &[u8], symbols: &[u32], statements: &[u32], st: Walk) -> Option<Refusal>
     requires { (st.symbols ≤ length symbols.now) × (st.statements ≤ length statements.now) }
     ensures { result ≡ fault_at file.now (take st.symbols symbols.now) (take st.statements statements.now) st.owed st.at }
 {
@@ -121,15 +121,15 @@ fn at_end(len: usize, st: Walk) -> Verdict
     ensures { result ≡ end_verdict st.owed len st.symbols st.statements }
 {
     if st.owed {
-        return Verdict::Refused {
+        return Err(TurnedAway {
             why: Refusal::NoProof,
             place: len,
-        };
+        });
     }
-    Verdict::Good {
+    Ok(Sizes {
         symbols: st.symbols,
         statements: st.statements,
-    }
+    })
 }
 
 // The records of a file of at most 1,048,576 bytes, one after another.
@@ -149,12 +149,10 @@ fn walk_records(file: &[u8], symbols: &mut [u32], statements: &mut [u32]) -> Ver
         if len <= at {
             return at_end(len, st);
         }
-        match judge(file, &symbols[..], &statements[..], st) {
-            Fault::Is(why) => return Verdict::Refused { why, place: at },
-            Fault::Fine => {
-                st = advance(file, symbols, statements, st);
-            }
+        if let Some(why) = judge(file, &symbols[..], &statements[..], st) {
+            return Err(TurnedAway { why, place: at });
         }
+        st = advance(file, symbols, statements, st);
     }
 }
 
@@ -171,10 +169,10 @@ pub fn check(file: &[u8], symbols: &mut [u32; 4096], statements: &mut [u32; 4096
     ensures { Checked file.now symbols.old statements.old symbols.new statements.new result }
 {
     if 1048576 < file.len() {
-        return Verdict::Refused {
+        return Err(TurnedAway {
             why: Refusal::TooMany,
             place: 0,
-        };
+        });
     }
     full(symbols);
     full(statements);

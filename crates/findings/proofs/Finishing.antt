@@ -1,4 +1,5 @@
 -- The findings at the end of the text: the mode, then what is left on the stack.
+use Rattle.std.proofs.Common.{Ok, Err}
 use Prim.Native.Nat.{ℕ, ◌+◌, ◌≤◌, ◌<◌}
 use mathlib.Core.Path.{◌≡◌, refl}
 use mathlib.Core.Bool.{Bool, true, false}
@@ -19,20 +20,18 @@ use Rattle.tree.specs.Recorded.{Applications, Denotes, Held}
 use Rattle.memory.specs.declared.Counts.{Counts}
 use Rattle.memory.specs.Table.{word}
 use Rattle.memory.specs.Shown.{Down, bottom, over, NodeShown, Shown}
-use Rattle.ends.specs.declared.end.Ended.{Ended}
-use Rattle.ends.specs.declared.end.Ended.TheVariants as ended
+use Rattle.machine.specs.Passed.{Passed}
 use Rattle.ends.specs.End as ends
 use Rattle.ends.specs.End.{EndsAs, ChecksEnd}
 use Rattle.run.specs.declared.Mode.{Mode}
 use Rattle.run.specs.declared.Mode.TheVariants.{Beginning, Normal, Roster, Letters}
 use Rattle.run.specs.Running.{Env, Tables, bench_of, lent_of}
 use Rattle.run.specs.Reads.{mode_of}
-use Rattle.findings.specs.declared.Answer.{Answer}
-use Rattle.findings.specs.declared.Answer.TheVariants.{Refused}
+use Rattle.findings.specs.Answers.{Answer}
 use Rattle.findings.specs.Tells.{Tells, accepts, refuses, ChecksMode, answer_of, Closes}
 
 -- the mode at the end
-pub mode-roster : {mode : Mode} → mode ≡ Roster → ChecksMode mode (ended.Refused ProofUnterminatedRoster)
+pub mode-roster : {mode : Mode} → mode ≡ Roster → ChecksMode mode (Err ProofUnterminatedRoster)
 unfolding machine.unfinished mode_of
 mode-roster e =
     record {
@@ -40,7 +39,7 @@ mode-roster e =
       passes = λ q rest. let z : ◌≡◌ {A = ℕ} 0 1 = cc in absurd (omega arith);
     }
 
-pub mode-varint : {mode : Mode} {k : ℕ} {saves : Bool} → mode ≡ Letters k saves → 0 < k → ChecksMode mode (ended.Refused ProofMalformedVarint)
+pub mode-varint : {mode : Mode} {k : ℕ} {saves : Bool} → mode ≡ Letters k saves → 0 < k → ChecksMode mode (Err ProofMalformedVarint)
 unfolding machine.unfinished mode_of unless
 mode-varint e some =
     record {
@@ -48,7 +47,7 @@ mode-varint e some =
       passes = λ q rest. let z : ◌≡◌ {A = ℕ} 0 1 = cc in absurd (omega arith);
     }
 
-pub mode-letters : {mode : Mode} {k : ℕ} {saves : Bool} → mode ≡ Letters k saves → k ≤ 0 → ChecksMode mode ended.Accepted
+pub mode-letters : {mode : Mode} {k : ℕ} {saves : Bool} → mode ≡ Letters k saves → k ≤ 0 → ChecksMode mode (Ok tt)
 unfolding machine.unfinished mode_of unless
 mode-letters {k = k} e none =
     record {
@@ -56,23 +55,23 @@ mode-letters {k = k} e none =
       passes = λ q rest. rw (e, below-no none) refl;
     }
 
-pub mode-beginning : {mode : Mode} → mode ≡ Beginning → ChecksMode mode ended.Accepted
+pub mode-beginning : {mode : Mode} → mode ≡ Beginning → ChecksMode mode (Ok tt)
 unfolding machine.unfinished mode_of
 mode-beginning e =
     record { refuses = λ why q rest. let z : ◌≡◌ {A = ℕ} 0 1 = cc in absurd (omega arith); passes = λ q rest. rw e refl }
 
-pub mode-normal : {mode : Mode} → mode ≡ Normal → ChecksMode mode ended.Accepted
+pub mode-normal : {mode : Mode} → mode ≡ Normal → ChecksMode mode (Ok tt)
 unfolding machine.unfinished mode_of
 mode-normal e =
     record { refuses = λ why q rest. let z : ◌≡◌ {A = ℕ} 0 1 = cc in absurd (omega arith); passes = λ q rest. rw e refl }
 
 -- a result that is settled at the end
 end_refused : {f entries : List ℕ} {why : Refusal} {r : Result Proved} {n steps : ℕ} (place : ℕ) (m : Memory) → r ≡ stop why → n ≡ steps
-    → Tells f entries (machine.settle r place n (machine.accept place m)) (Refused (record { why = why; place = place; steps = steps }))
+    → Tells f entries (machine.settle r place n (machine.accept place m)) (Err (record { why = why; place = place; steps = steps }))
 unfolding machine.settle
 end_refused place m e n = rw (e, n) refuses
 
-end-as : {f entries : List ℕ} {r : Result Proved} {answer : Ended} {n steps word nodes : ℕ} (place : ℕ) (m : Memory) → nodes ≤ m.steps + m.consumed
+end-as : {f entries : List ℕ} {r : Result Proved} {answer : Passed} {n steps word nodes : ℕ} (place : ℕ) (m : Memory) → nodes ≤ m.steps + m.consumed
     → ((x : Proved) → r ≡ fine x → nodes ≤ length entries → Held f entries nodes word x.tree) → EndsAs r answer → n ≡ steps → m.steps ≡ steps
     → Tells f entries (machine.settle r place n (machine.accept place m)) (answer_of answer place steps word nodes)
 unfolding machine.settle machine.accept answer_of
@@ -98,12 +97,12 @@ only-denotes (a ∷ []) claim x (over g p bottom) e = rw (← claimed claim e, �
 only-denotes (a ∷ b ∷ es) claim x d e = let z : ◌≡◌ {A = ℕ} 0 1 = cc in absurd (omega arith)
 
 module _ {f syms : List ℕ} {at : ℕ} {stack pool : List ℕ} {c : Counts} {mode : Mode} {place steps : ℕ} where
-  pub closes-refused : {why : Refusal} → ChecksMode mode (ended.Refused why) → Closes f syms at stack pool c mode place steps (Refused (record { why = why; place = place; steps = steps }))
+  pub closes-refused : {why : Refusal} → ChecksMode mode (Err why) → Closes f syms at stack pool c mode place steps (Err (record { why = why; place = place; steps = steps }))
   unfolding machine.finish
   closes-refused {why} checks =
       record { tells = λ e t m file-is stack_is pool-is filed loc n s. end_refused place m (checks.refuses why refl _) n }
 
-  pub closes-end : {answer : Ended} {lowest : ℕ} → lowest ≡ get_or stack 5 0 → ChecksMode mode ended.Accepted → ChecksEnd f syms at stack pool c answer
+  pub closes-end : {answer : Passed} {lowest : ℕ} → lowest ≡ get_or stack 5 0 → ChecksMode mode (Ok tt) → ChecksEnd f syms at stack pool c answer
       → Closes f syms at stack pool c mode place steps (answer_of answer place steps lowest c.nodes)
   unfolding machine.finish
   closes-end {answer} {lowest} word_is checks end =

@@ -1,2 +1,3 @@
 -- What a proof comes to.
+pub mod Answers
 pub mod Tells

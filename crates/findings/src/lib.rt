@@ -5,54 +5,59 @@
 ghost use Rattle.std.specs.Prelude.{◌≡◌};
 ghost use Rattle.findings.specs.Tells.{ChecksMode, answer_of, Closes};
 
-use ends::end::{Ended, check_end};
+use ends::end::check_end;
 use machine::Refusal;
 use memory::Counts;
 use memory::table::word_at;
 use run::Mode;
 use run_bytes::Stopped;
 
-// The proof is accepted, at this place and after so many steps, with the word of its derivation and the tree entries that hold it; or it is refused.
-#[derive(Clone, Copy)]
-pub enum Answer {
-    Accepted {
-        place: usize,
-        steps: usize,
-        word: u64,
-        nodes: usize,
-    },
-    Refused(Stopped),
+// The proof is accepted, at this place and after so many steps, with the word of its derivation and the tree entries that hold it.
+#[derive(Clone, Copy, Debug, PartialEq, Eq)]
+pub struct Acceptance {
+    pub place: usize,
+    pub steps: usize,
+    pub word: u64,
+    pub nodes: usize,
 }
 
+// The proof is accepted, or it is refused.
+pub type Answer = Result<Acceptance, Stopped>;
+
 // How the mode stands at the end of the text: 21 in the roster, 22 with an unfinished k.
-fn check_mode(mode: Mode) -> Ended
+fn check_mode(mode: Mode) -> Result<(), Refusal>
     ensures { ChecksMode mode result }
 {
     match mode {
-        Mode::Roster => Ended::Refused(Refusal::ProofUnterminatedRoster),
+        Mode::Roster => Err(Refusal::ProofUnterminatedRoster),
         Mode::Letters { k, can_save } => {
             if 0 < k {
-                return Ended::Refused(Refusal::ProofMalformedVarint);
+                return Err(Refusal::ProofMalformedVarint);
             }
-            Ended::Accepted
+            Ok(())
         }
-        Mode::Beginning => Ended::Accepted,
-        Mode::Normal => Ended::Accepted,
+        Mode::Beginning | Mode::Normal => Ok(()),
     }
 }
 
 // The answer of an end: accepted, or refused, at this place and after so many steps.
-fn settled(ended: Ended, place: usize, steps: usize, word: u64, nodes: usize) -> Answer
+fn settled(
+    ended: Result<(), Refusal>,
+    place: usize,
+    steps: usize,
+    word: u64,
+    nodes: usize,
+) -> Answer
     ensures { result ≡ answer_of ended place steps word nodes }
 {
     match ended {
-        Ended::Accepted => Answer::Accepted {
+        Ok(()) => Ok(Acceptance {
             place,
             steps,
             word,
             nodes,
-        },
-        Ended::Refused(why) => Answer::Refused(Stopped { why, place, steps }),
+        }),
+        Err(why) => Err(Stopped { why, place, steps }),
     }
 }
 
@@ -72,8 +77,8 @@ pub fn finish(
 {
     let word = word_at(stack, 5);
     match check_mode(mode) {
-        Ended::Refused(why) => settled(Ended::Refused(why), place, steps, word, c.nodes),
-        Ended::Accepted => {
+        Err(why) => settled(Err(why), place, steps, word, c.nodes),
+        Ok(()) => {
             settled(
                 check_end(file, symbols, at, stack, pool, c),
                 place,

@@ -7,7 +7,7 @@ ghost use Rattle.io.specs.Counts.{IsPrefixLen};
 ghost use Rattle.verdict_text.specs.Text.{line_of};
 ghost use Rattle.framecheck.specs.Program.{answer_of};
 
-use frames::{Refusal, Verdict};
+use frames::{Refusal, TurnedAway, Verdict};
 
 // The descriptors of standard input and output.
 const STDIN_FILENO: i32 = 0;
@@ -26,10 +26,10 @@ fn answer(input: &[u8]) -> Verdict
     ensures { result ≡ answer_of input.now }
 {
     if input.len() > 65536 {
-        return Verdict::Refused {
+        return Err(TurnedAway {
             why: Refusal::TooMany,
             place: 0,
-        };
+        });
     }
     let mut symbols = [0u32; 4096];
     let mut statements = [0u32; 4096];

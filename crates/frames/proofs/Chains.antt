@@ -1,15 +1,14 @@
 -- How a chain of tests is decided, for the functions that return at the first test that settles the answer: each law takes one
 -- test away, so that a proof follows the code's own returns.
+use Rattle.std.proofs.Common.{Some}
 use Prim.Native.Nat.{ℕ, ◌<◌, ◌≤◌}
 use mathlib.Core.Path.{◌≡◌, refl, sym, ap, ◌∙◌}
 use mathlib.Core.Bool.{Bool, true, false}
 use mathlib.Core.List.{List, [], ◌∷◌}
 use lib.Dec.{eqb}
 use borrow.Author.Tests.{lt-ltb, le-ltb, le-leb, lt-leb, eq-eqb, ne_eqb, ltb-true, ltb-false, leb-true, leb-false, eqb-true, eqb-false}
-use Rattle.frames.specs.Verdict.{unless}
+use Rattle.frames.specs.Verdict.{unless, Fault}
 use Rattle.frames.specs.declared.Refusal.{Refusal}
-use Rattle.frames.specs.declared.Fault.{Fault}
-use Rattle.frames.specs.declared.Fault.TheVariants.{Is}
 use Rattle.frames.specs.Logic.{below, at_most, equal, pick, either, both, no, one_of}
 
 pub pick_first : {A : Type 0} {t : Bool} {x a : A} (b : A) → t ≡ true → x ≡ a → x ≡ pick t a b
@@ -139,7 +138,7 @@ pub reference-same : {d d' k k' g g' v v' p p' r r' a a' : Bool} → d ≡ d' �
 reference-same d k g v p r a = cc
 
 -- the refusals of a record, in their order
-pub unless-stop : {t : Bool} {why : Refusal} {x : Fault} (rest : Fault) → t ≡ true → x ≡ Is why → x ≡ unless t why rest
+pub unless-stop : {t : Bool} {why : Refusal} {x : Fault} (rest : Fault) → t ≡ true → x ≡ Some why → x ≡ unless t why rest
 unfolding unless
 unless-stop rest e h = rw e h
 

@@ -1,6 +1,7 @@
 -- A record without a fault: `fault_at` answers `Fine` only where every row of the table fails, so each row is read back as an
 -- equation. From the first rows follow the bounds that the walk over the file needs: the record lies within the file, it has
 -- at least 6 bytes, and there is room for one more symbol or statement.
+use Rattle.std.proofs.Common.{None}
 use Prim.Native.Nat.{ℕ, ◌+◌, ◌≤◌, ◌<◌}
 use mathlib.Core.Path.{◌≡◌, refl}
 use mathlib.Core.Bool.{Bool, true, false}
@@ -10,11 +11,9 @@ use lib.ListN.{length}
 use Rattle.frames.specs.Logic.{below, at_most, equal, both}
 use Rattle.frames.specs.Layout.{length_at, kind_at, next_at, is_statement, class_at, hyp_count, pair_count, listed_count, rest_from, rest_size}
 use Rattle.frames.specs.Table.{unknown_kind, bad_rest, no_symbols, cut_short, off_layout, bad_record, too_many, bad_symbol, bad_label, bad_reference, bad_frame, no_proof}
-use Rattle.frames.specs.Verdict.{unless, fault_at}
+use Rattle.frames.specs.Verdict.{unless, fault_at, Fault}
 use Rattle.frames.specs.declared.Refusal.{Refusal}
 use Rattle.frames.specs.declared.Refusal.TheVariants.{BadRecord, TooMany, BadSymbol, BadLabel, BadReference, BadFrame, NoProof}
-use Rattle.frames.specs.declared.Fault.{Fault}
-use Rattle.frames.specs.declared.Fault.TheVariants.{Fine}
 use Rattle.frames.proofs.Chains.{below_false, at_most-false, equal-yes}
 use Rattle.frames.proofs.Tells.{one_of-false, both_false}
 
@@ -29,12 +28,12 @@ pub record Faultless (f syms stmts : List ℕ) (owed : Bool) (o : ℕ) : Type 0 
   pub proof_row : no_proof f owed o ≡ false
 
 -- a chain that ends in `Fine` passed this test
-unless-fine : (t : Bool) (why : Refusal) (rest : Fault) → unless t why rest ≡ Fine → (t ≡ false) × (rest ≡ Fine)
+unless-fine : (t : Bool) (why : Refusal) (rest : Fault) → unless t why rest ≡ None → (t ≡ false) × (rest ≡ None)
 unfolding unless
 unless-fine true why rest e = let z : ◌≡◌ {A = ℕ} 0 1 = cc in absurd (omega arith)
 unless-fine false why rest e = (refl, e)
 
-pub fault-fine : (f syms stmts : List ℕ) (owed : Bool) (o : ℕ) → fault_at f syms stmts owed o ≡ Fine → Faultless f syms stmts owed o
+pub fault-fine : (f syms stmts : List ℕ) (owed : Bool) (o : ℕ) → fault_at f syms stmts owed o ≡ None → Faultless f syms stmts owed o
 unfolding fault_at
 fault-fine f syms stmts owed o e =
     let r1 = unless-fine (bad_record f o) BadRecord _ e in
@@ -112,7 +111,7 @@ limits-kept f syms stmts o e =
       text = λ k. below_false _ _ (both_false _ _ t6.0 (equal-yes k));
     }
 
-module _ (f syms stmts : List ℕ) (owed : Bool) (o : ℕ) (fine : fault_at f syms stmts owed o ≡ Fine) where
+module _ (f syms stmts : List ℕ) (owed : Bool) (o : ℕ) (fine : fault_at f syms stmts owed o ≡ None) where
   -- the record ends within the file
   pub fine-next : next_at f o ≤ length f
   fine-next = (record-well-formed f o (fault-fine f syms stmts owed o fine).record_row).within

@@ -1,4 +1,5 @@
 -- Laws of searching: two lists are the same exactly when the test says so, and a member that passes is found.
+use Rattle.std.proofs.Common.{Some, None}
 use Prim.Native.Nat.{ℕ, zero, suc, ◌<◌}
 use mathlib.Core.Path.{◌≡◌, refl, sym, ap, ap₂, subst, ◌∙◌}
 use mathlib.Core.Bool.{Bool, true, false}
@@ -8,9 +9,7 @@ use lib.ListN.{length, get_or}
 use Rattle.frames.specs.Logic.{equal, both, either, any, same}
 use Rattle.frames.specs.Layout.{rest_at}
 use Rattle.frames.specs.Table.{named, used}
-use Rattle.frames.specs.Search.{Finds}
-use Rattle.frames.specs.declared.text.Found.{Found}
-use Rattle.frames.specs.declared.text.Found.TheVariants.{At, Nothing}
+use Rattle.frames.specs.Search.{Finds, Found}
 use Rattle.frames.proofs.Chains.{equal-yes, equal-true, either_first}
 
 both_left : (t u : Bool) → both t u ≡ true → t ≡ true
@@ -55,13 +54,13 @@ unfolding used named
 used-index f os text i h e = any-index (named f text) os i 0 h (ap (λ t. same t text) e ∙ same_self text)
 
 -- what a search answers tells whether the name or label is used
-pub finds-used : (f os text : List ℕ) (r : Found) (i : ℕ) → r ≡ At i → Finds f os text r → true ≡ used f os text
+pub finds-used : (f os text : List ℕ) (r : Found) (i : ℕ) → r ≡ Some i → Finds f os text r → true ≡ used f os text
 finds-used f os text r i e h =
-    let g : Finds f os text (At i) = subst (Finds f os text) e h in
+    let g : Finds f os text (Some i) = subst (Finds f os text) e h in
     used-index f os text i g.0 g.1
 
-pub finds-unused : (f os text : List ℕ) (r : Found) → r ≡ Nothing → Finds f os text r → false ≡ used f os text
+pub finds-unused : (f os text : List ℕ) (r : Found) → r ≡ None → Finds f os text r → false ≡ used f os text
 finds-unused f os text r e h = sym (subst (Finds f os text) e h)
 
-pub finds-at : (f os text : List ℕ) (r : Found) (i : ℕ) → r ≡ At i → Finds f os text r → (i < length os) × (rest_at f (get_or os i 0) ≡ text)
+pub finds-at : (f os text : List ℕ) (r : Found) (i : ℕ) → r ≡ Some i → Finds f os text r → (i < length os) × (rest_at f (get_or os i 0) ≡ text)
 finds-at f os text r i e h = subst (Finds f os text) e h

@@ -3,8 +3,7 @@
 use Rattle.std.specs.Prelude.{ℕ, ◌≡◌, List, [], map, length}
 use Rattle.frames.specs.Logic.{equal, pick}
 use Rattle.frames.specs.Layout.{supposes, kind_at, next_at, class_at, scope_end_at, rest_at, hyps_at, pairs_at, symbols_at}
-use Rattle.frames.specs.Verdict.{Index, verdict, index}
-use Rattle.frames.specs.declared.Verdict.TheVariants.{Good}
+use Rattle.frames.specs.Verdict.{Index, verdict, index, Good}
 
 -- a symbol: its offset, class (0 constant, 1 variable) and name
 pub record Symbol : Type 0 where

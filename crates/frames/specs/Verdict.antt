@@ -1,15 +1,27 @@
 -- The verdict on a list of bytes, and the index of the file: the records are judged one after another, the first faulty one
 -- decides, and in it the lowest number. Every list of bytes has exactly one verdict, since `verdict` is a function.
-use Rattle.std.specs.Prelude.{ℕ, zero, suc, ◌+◌, ◌≡◌, Bool, true, false, List, [], ◌∷◌, ◌++◌, length, drop}
+use Rattle.std.specs.Prelude.{ℕ, zero, suc, ◌+◌, ◌≡◌, Bool, true, false, List, [], ◌∷◌, ◌++◌, length, drop, Option, Some, None, Result, Ok, Err}
 use Rattle.frames.specs.Logic.{below, at_most, equal, pick}
 use Rattle.frames.specs.Layout.{kind_at, next_at, is_statement}
 use Rattle.frames.specs.Table.{bad_record, too_many, bad_symbol, bad_label, bad_reference, bad_frame, no_proof}
 use Rattle.frames.specs.declared.Refusal.{Refusal}
+use Rattle.frames.specs.declared.Sizes.{Sizes}
+use Rattle.frames.specs.declared.TurnedAway.{TurnedAway}
 use Rattle.frames.specs.declared.Refusal.TheVariants.{BadRecord, TooMany, BadSymbol, BadLabel, BadReference, BadFrame, NoProof}
-use Rattle.frames.specs.declared.Fault.{Fault}
-use Rattle.frames.specs.declared.Fault.TheVariants.{Fine, Is}
-use Rattle.frames.specs.declared.Verdict.{Verdict}
-use Rattle.frames.specs.declared.Verdict.TheVariants.{Good, Refused}
+
+-- what is wrong with a record, or nothing
+abbrev pub Fault : Type 0
+Fault = Option Refusal
+
+-- the file is good, with so many symbols and statements; or it is turned away, why and where
+abbrev pub Verdict : Type 0
+Verdict = Result Sizes TurnedAway
+
+abbrev pub Good : ℕ → ℕ → Verdict
+Good symbols statements = Ok (record { symbols = symbols; statements = statements })
+
+abbrev pub Refused : {A : Type 0} → Refusal → ℕ → Result A TurnedAway
+Refused why place = Err (record { why = why; place = place })
 
 -- the paper's number of each refusal
 abbrev pub number_of : Refusal → ℕ
@@ -33,7 +45,7 @@ nothing = record { symbols = []; statements = []; owed = false }
 
 -- the refusal where the test holds, else what the rest says
 unfoldable pub unless : Bool → Refusal → Fault → Fault
-unless true why rest = Is why
+unless true why rest = Some why
 unless false why rest = rest
 
 -- what is wrong with the record at `o`: the lowest number whose row holds
@@ -46,7 +58,7 @@ fault_at f syms stmts owed o =
     (unless (bad_reference f syms stmts o) BadReference
     (unless (bad_frame f syms stmts o) BadFrame
     (unless (no_proof f owed o) NoProof
-    Fine))))))
+    None))))))
 
 -- the index with the record at `o` read
 unfoldable pub after : List ℕ → Index → ℕ → Index
@@ -75,8 +87,8 @@ at_end f ix =
 
 -- a fault decides, at the record's offset; a good record leaves the verdict to the rest
 unfoldable pub decided : Fault → ℕ → Index → Outcome → Outcome
-decided Fine o ix rest = rest
-decided (Is why) o ix rest = refusal why o ix
+decided None o ix rest = rest
+decided (Some why) o ix rest = refusal why o ix
 
 -- the records from offset `o` on; the first number only bounds how many there can be: a good record takes at least 6 bytes, so
 -- that `length f + 1` is never used up

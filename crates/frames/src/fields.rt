@@ -8,7 +8,7 @@ ghost use Rattle.frames.specs.Search.{FindsSymbol, FindsStatement};
 use crate::numbers::{StatementNo, SymbolNo};
 use crate::read::u16_at;
 use crate::refer::Pair;
-use crate::text::{Found, find};
+use crate::text::find;
 use crate::{record, refer};
 
 // The offset of a symbol's record; 0 for a number that is not defined.
@@ -136,36 +136,16 @@ pub fn proof_text(file: &[u8], at: u32) -> &[u8]
     &file[..0]
 }
 
-// What a search by name finds.
-#[derive(Clone, Copy)]
-pub enum FoundSymbol {
-    Symbol(SymbolNo),
-    NoSymbol,
-}
-
-// What a search by label finds.
-#[derive(Clone, Copy)]
-pub enum FoundStatement {
-    Statement(StatementNo),
-    NoStatement,
-}
-
 // The symbol of this name.
-pub fn find_symbol(file: &[u8], symbols: &[u32], name: &[u8]) -> FoundSymbol
+pub fn find_symbol(file: &[u8], symbols: &[u32], name: &[u8]) -> Option<SymbolNo>
     ensures { FindsSymbol file.now symbols.now name.now result }
 {
-    match find(file, symbols, name) {
-        Found::At(i) => FoundSymbol::Symbol(SymbolNo(i)),
-        Found::Nothing => FoundSymbol::NoSymbol,
-    }
+    find(file, symbols, name).map(SymbolNo)
 }
 
 // The statement of this label.
-pub fn find_statement(file: &[u8], statements: &[u32], label: &[u8]) -> FoundStatement
+pub fn find_statement(file: &[u8], statements: &[u32], label: &[u8]) -> Option<StatementNo>
     ensures { FindsStatement file.now statements.now label.now result }
 {
-    match find(file, statements, label) {
-        Found::At(i) => FoundStatement::Statement(StatementNo(i)),
-        Found::Nothing => FoundStatement::NoStatement,
-    }
+    find(file, statements, label).map(StatementNo)
 }

@@ -13,7 +13,7 @@ pub mod refer;
 pub mod text;
 
 // Why a frame file is turned away.
-#[derive(Clone, Copy)]
+#[derive(Clone, Copy, Debug, PartialEq, Eq)]
 pub enum Refusal {
     BadRecord,
     TooMany,
@@ -24,19 +24,22 @@ pub enum Refusal {
     NoProof,
 }
 
-// What is wrong with one record.
-#[derive(Clone, Copy)]
-pub enum Fault {
-    Fine,
-    Is(Refusal),
+// A good file: how many symbols and statements it has.
+#[derive(Clone, Copy, Debug, PartialEq, Eq)]
+pub struct Sizes {
+    pub symbols: usize,
+    pub statements: usize,
+}
+
+// A file that is turned away: why, and the offset of the record at fault.
+#[derive(Clone, Copy, Debug, PartialEq, Eq)]
+pub struct TurnedAway {
+    pub why: Refusal,
+    pub place: usize,
 }
 
 // The answer of the file check.
-#[derive(Clone, Copy)]
-pub enum Verdict {
-    Good { symbols: usize, statements: usize },
-    Refused { why: Refusal, place: usize },
-}
+pub type Verdict = Result<Sizes, TurnedAway>;
 
 // The paper's number of a refusal.
 pub fn number(why: Refusal) -> usize

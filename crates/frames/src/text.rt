@@ -73,34 +73,24 @@ pub fn same_bytes(a: &[u8], b: &[u8]) -> bool
     true
 }
 
-// What a search by name or label finds: the number of a record that bears it, or that none does.
-#[derive(Clone, Copy)]
-pub enum Found {
-    At(usize),
-    Nothing,
-}
-
-// Looks among the records at these offsets for one with this name or label.
-pub fn find(file: &[u8], offsets: &[u32], text: &[u8]) -> Found
+// Looks among the records at these offsets for one with this name or label: its number.
+pub fn find(file: &[u8], offsets: &[u32], text: &[u8]) -> Option<usize>
     ensures { Finds file.now offsets.now text.now result }
 {
     let mut i = 0;
     while i < offsets.len() {
         let rest = rest_at(file, offsets[i]);
         if same_bytes(rest, text) {
-            return Found::At(i);
+            return Some(i);
         }
         i += 1;
     }
-    Found::Nothing
+    None
 }
 
 // Whether one of the records at these offsets has this name or label.
 pub fn is_used(file: &[u8], offsets: &[u32], text: &[u8]) -> bool
     ensures { result ≡ used file.now offsets.now text.now }
 {
-    match find(file, offsets, text) {
-        Found::At(_) => true,
-        Found::Nothing => false,
-    }
+    find(file, offsets, text).is_some()
 }

@@ -1,13 +1,11 @@
 -- A verdict as three numbers, for a caller in another language.
-use Rattle.std.specs.Prelude.{ℕ, ◌≡◌, List, [], ◌∷◌}
-use Rattle.frames.specs.declared.Verdict.{Verdict}
-use Rattle.frames.specs.declared.Verdict.TheVariants.{Good, Refused}
-use Rattle.frames.specs.Verdict.{number_of, verdict, index, laid}
+use Rattle.std.specs.Prelude.{ℕ, ◌≡◌, List, [], ◌∷◌, Ok, Err}
+use Rattle.frames.specs.Verdict.{Verdict, number_of, verdict, index, laid}
 
 -- 0 and the counts of a good file; else the refusal's number, the place and 0
 unfoldable pub answer_of : Verdict → List ℕ
-answer_of (Good symbols statements) = 0 ∷ symbols ∷ statements ∷ []
-answer_of (Refused why place) = number_of why ∷ place ∷ 0 ∷ []
+answer_of (Ok sizes) = 0 ∷ sizes.symbols ∷ sizes.statements ∷ []
+answer_of (Err away) = number_of away.why ∷ away.place ∷ 0 ∷ []
 
 -- the three numbers are those of the file's verdict, and the tables are as the file check leaves them
 pub record Answered (f syms stmts syms' stmts' answer : List ℕ) : Type 0 where

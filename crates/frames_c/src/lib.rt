@@ -13,11 +13,8 @@ fn answer_of(verdict: Verdict) -> [u64; 3]
     ensures { result ≡ answer_of verdict }
 {
     match verdict {
-        Verdict::Good {
-            symbols,
-            statements,
-        } => [0, symbols as u64, statements as u64],
-        Verdict::Refused { why, place } => [frames::number(why) as u64, place as u64, 0],
+        Ok(sizes) => [0, sizes.symbols as u64, sizes.statements as u64],
+        Err(away) => [frames::number(away.why) as u64, away.place as u64, 0],
     }
 }
 

@@ -8,7 +8,6 @@ ghost use Rattle.frames.specs.Search.{FindsStatement};
 ghost use Rattle.label_index.specs.Labelled.{hash_of, Labelled, LabelledTo, Put};
 
 use clearing::clear_words32;
-use frames::fields::FoundStatement;
 use frames::numbers::StatementNo;
 use frames::record::rest_at;
 use frames::refer::entry;
@@ -66,7 +65,7 @@ pub fn find_labelled(
     statements: &[u32],
     labels: &[u32],
     label: &[u8],
-) -> FoundStatement
+) -> Option<StatementNo>
     requires { Labelled file.now statements.now labels.now }
     ensures { FindsStatement file.now statements.now label.now result }
 {
@@ -74,9 +73,9 @@ pub fn find_labelled(
     while word != 0 {
         let j = word - 1;
         if same_bytes(rest_at(file, entry(statements, j)), label) {
-            return FoundStatement::Statement(StatementNo(j));
+            return Some(StatementNo(j));
         }
         word = entry(labels, 8192 + j) as usize;
     }
-    FoundStatement::NoStatement
+    None
 }

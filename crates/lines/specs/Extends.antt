@@ -1,7 +1,6 @@
 -- Texts put into a buffer one after another, where there may be no room for one of them.
 use Rattle.std.specs.Prelude.{ℕ, ◌≡◌, List, ◌++◌, length}
-use Rattle.packed.specs.Pool.{Adds}
-use Rattle.packed.specs.declared.pool.Grown.{Grown}
+use Rattle.packed.specs.Pool.{Adds, Grown}
 use Rattle.verdict_text.specs.Text.{line}
 
 -- these bytes, and then the text; these bytes as the beginning of a line that ends with two numbers

@@ -7,8 +7,6 @@ ghost use Rattle.verdict_text.specs.Text.{decimal, refused_line};
 ghost use Rattle.lines.specs.Lines.{checked_line, labelled, answer_line};
 ghost use Rattle.lines.specs.Extends.{and_then, and_two, Extends};
 
-use packed::pool::Grown;
-
 // Puts a text into the buffer at `at`.
 fn put_text(out: &mut [u8], at: usize, text: &[u8])
     requires { at + length text.now ≤ length out.old }
@@ -22,33 +20,30 @@ fn put_text(out: &mut [u8], at: usize, text: &[u8])
 }
 
 // Adds a text at `at`, if there is room.
-pub fn add_text(out: &mut [u8], at: usize, text: &[u8]) -> Grown
+pub fn add_text(out: &mut [u8], at: usize, text: &[u8]) -> Option<usize>
     ensures { Adds text.now at (length out.old) out.old out.new result }
 {
     let limit = out.len();
     if limit < at {
-        return Grown::Full;
+        return None;
     }
     let n = text.len();
     if limit - at < n {
-        return Grown::Full;
+        return None;
     }
     put_text(out, at, text);
-    Grown::To(at + n)
+    Some(at + n)
 }
 
 // Adds a text after what is there so far.
-pub fn then_text(out: &mut [u8], done: Grown, text: &[u8]) -> Grown
+pub fn then_text(out: &mut [u8], done: Option<usize>, text: &[u8]) -> Option<usize>
     ensures { Extends (and_then text.now) out.old done out.new result }
 {
-    match done {
-        Grown::To(at) => add_text(out, at, text),
-        Grown::Full => Grown::Full,
-    }
+    add_text(out, done?, text)
 }
 
 // Adds the digits of a number after what is there so far.
-pub fn then_number(out: &mut [u8], done: Grown, n: usize) -> Grown
+pub fn then_number(out: &mut [u8], done: Option<usize>, n: usize) -> Option<usize>
     ensures { Extends (and_then (decimal n)) out.old done out.new result }
 {
     let mut digits = [0u8; 20];
@@ -57,7 +52,7 @@ pub fn then_number(out: &mut [u8], done: Grown, n: usize) -> Grown
 }
 
 // Ends a line with two numbers.
-pub fn then_two(out: &mut [u8], done: Grown, a: usize, b: usize) -> Grown
+pub fn then_two(out: &mut [u8], done: Option<usize>, a: usize, b: usize) -> Option<usize>
     ensures { Extends (and_two a b) out.old done out.new result }
 {
     let first = then_number(out, done, a);
@@ -67,7 +62,7 @@ pub fn then_two(out: &mut [u8], done: Grown, a: usize, b: usize) -> Grown
 }
 
 // Puts `refused NUMBER PLACE` at `at`.
-pub fn put_refused(out: &mut [u8], at: usize, number: usize, place: usize) -> Grown
+pub fn put_refused(out: &mut [u8], at: usize, number: usize, place: usize) -> Option<usize>
     ensures { Adds (refused_line number place) at (length out.old) out.old out.new result }
 {
     let word = add_text(out, at, b"refused ");
@@ -75,7 +70,7 @@ pub fn put_refused(out: &mut [u8], at: usize, number: usize, place: usize) -> Gr
 }
 
 // Puts `checked N` at `at`.
-pub fn put_checked(out: &mut [u8], at: usize, n: usize) -> Grown
+pub fn put_checked(out: &mut [u8], at: usize, n: usize) -> Option<usize>
     ensures { Adds (checked_line n) at (length out.old) out.old out.new result }
 {
     let word = add_text(out, at, b"checked ");
@@ -84,7 +79,7 @@ pub fn put_checked(out: &mut [u8], at: usize, n: usize) -> Grown
 }
 
 // Puts a label and a number, each with a space after it, at `at`.
-fn put_label(out: &mut [u8], at: usize, label: &[u8], number: usize) -> Grown
+fn put_label(out: &mut [u8], at: usize, label: &[u8], number: usize) -> Option<usize>
     ensures { Adds (labelled label.now number) at (length out.old) out.old out.new result }
 {
     let name = add_text(out, at, label);
@@ -101,7 +96,7 @@ pub fn put_answer(
     number: usize,
     place: usize,
     steps: usize,
-) -> Grown
+) -> Option<usize>
     ensures { Adds (answer_line label.now number place steps) at (length out.old) out.old out.new result }
 {
     let begun = put_label(out, at, label, number);

@@ -1,5 +1,6 @@
 -- What is told of an accepted proof. Its steps are one more than the hypotheses that it consumed, so at most 2 x steps - 1 tree entries were recorded: where
 -- as many were lent, the entries hold the derivation, and its text is written where it fits.
+use Rattle.std.proofs.Common.{Some, None, Err}
 use Prim.Native.Nat.{ℕ, suc, ◌+◌, ◌-◌, ◌/◌, ◌*◌, ◌≤◌, min}
 use mathlib.Core.Path.{◌≡◌, refl, sym}
 use mathlib.Core.Bool.{Bool, true, false}
@@ -17,14 +18,12 @@ use Rattle.machine.specs.Promise.{Counted, all_steps}
 use Rattle.machine.specs.Run.{State}
 use Rattle.machine.proofs.Numbers.{refusal-number}
 use Rattle.run_bytes.specs.declared.Stopped.{Stopped}
-use Rattle.findings.specs.declared.Answer.TheVariants.{Accepted, Refused}
+use Rattle.findings.specs.Answers.{Accepted}
 use Rattle.findings.specs.Tells.{Tells, accepts, refuses}
 use Rattle.tree.specs.Recorded.{Held}
 use Rattle.postorder.specs.LongForm.{fits, nothing_written, written, entries_for, long_of}
 use Rattle.postorder.proofs.Answers.{refusal-answered}
-use Rattle.long_text.specs.declared.Written.{Written}
-use Rattle.long_text.specs.declared.Written.TheVariants.{Whole, TooLong}
-use Rattle.long_text.specs.Long.{Long, WritesLong}
+use Rattle.long_text.specs.Long.{Written, Long, WritesLong}
 use Rattle.long_text.proofs.Answers.{whole-fits, too-long-exceeds}
 use Rattle.told.specs.declared.Told.{Told}
 use Rattle.told.specs.Says.{Says, SaysAs}
@@ -47,12 +46,12 @@ refusal-says db lent size output {a} s some =
     rw (refusal-answered db lent size a some) (record { number = s.number; place = s.place; steps = s.steps; written = refl })
 
 module _ (f entries : List ℕ) (lent : ℕ) (output : List ℕ) where
-  refused_says : {x : Stopped} {s : State} {t : Told} → Tells f entries s (Refused x) → Says (ended s) t → SaysLong (long_of (database f) lent (length output) (ended s)) output output t
+  refused_says : {x : Stopped} {s : State} {t : Told} → Tells f entries s (Err x) → Says (ended s) t → SaysLong (long_of (database f) lent (length output) (ended s)) output output t
   unfolding ended number
   refused_says {x} refuses says = refusal-says (database f) lent (length output) output says (λ z. omega (arith, refusal-number x.why))
 
   -- a refused proof
-  pub refused-long : {x : Stopped} {t : Told} → SaysAs (Refused x) t → TellsLong f entries lent (Refused x) output output t
+  pub refused-long : {x : Stopped} {t : Told} → SaysAs (Err x) t → TellsLong f entries lent (Err x) output output t
   refused-long told = record { says = λ L s good tells counted few size. refused_says tells (told.says f entries s tells) }
 
 counted-steps : {L place steps consumed : ℕ} {tree : Tree} → Counted L (accepted place steps consumed tree) → L ≤ 65536 → (steps ≡ suc consumed) × (steps ≤ 65536)
@@ -81,7 +80,7 @@ module _ (f entries : List ℕ) (lent at done word nodes : ℕ) (output : List �
         let there : nodes ≤ length entries = omega arith in
         writes.follows tree good (held there) (omega arith) (omega arith)
 
-    whole_says : {n L : ℕ} {s : State} → answer ≡ Whole n → GoodFile f → Tells f entries s (Accepted at done word nodes) → Counted L (ended s) → L ≤ 65536
+    whole_says : {n L : ℕ} {s : State} → answer ≡ Some n → GoodFile f → Tells f entries s (Accepted at done word nodes) → Counted L (ended s) → L ≤ 65536
         → length entries ≡ min lent 131072 → SaysLong (long_of (database f) lent (length output) (ended s)) output output' (record { number = 0; place = n; steps = done })
     unfolding ended long_of written pick
     whole_says {n} is good (accepts {consumed = consumed} {tree = tree} few held) counted small size =
@@ -89,7 +88,7 @@ module _ (f entries : List ℕ) (lent at done word nodes : ℕ) (output : List �
         let fit = whole-fits (database f) tree output output' n (rw is at long) in
         rw (enough, fit.fitting) (record { number = refl; place = fit.sized; steps = refl; written = fit.written })
 
-    exceeding-says : {L : ℕ} {s : State} → answer ≡ TooLong → GoodFile f → Tells f entries s (Accepted at done word nodes) → Counted L (ended s) → L ≤ 65536
+    exceeding-says : {L : ℕ} {s : State} → answer ≡ None → GoodFile f → Tells f entries s (Accepted at done word nodes) → Counted L (ended s) → L ≤ 65536
         → length entries ≡ min lent 131072 → SaysLong (long_of (database f) lent (length output) (ended s)) output output' (record { number = 61; place = at; steps = done })
     unfolding ended long_of nothing_written pick laid
     exceeding-says is good (accepts {consumed = consumed} {tree = tree} few held) counted small size =
@@ -98,9 +97,9 @@ module _ (f entries : List ℕ) (lent at done word nodes : ℕ) (output : List �
         rw (enough, over.exceeding) (record { number = refl; place = refl; steps = refl; written = over.untouched })
 
     -- the text is written
-    pub whole_long : {n : ℕ} → answer ≡ Whole n → TellsLong f entries lent (Accepted at done word nodes) output output' (record { number = 0; place = n; steps = done })
+    pub whole_long : {n : ℕ} → answer ≡ Some n → TellsLong f entries lent (Accepted at done word nodes) output output' (record { number = 0; place = n; steps = done })
     whole_long is = record { says = λ L s good tells counted few size. whole_says is good tells counted few size }
 
     -- it is too long
-    pub exceeding-long : answer ≡ TooLong → TellsLong f entries lent (Accepted at done word nodes) output output' (record { number = 61; place = at; steps = done })
+    pub exceeding-long : answer ≡ None → TellsLong f entries lent (Accepted at done word nodes) output output' (record { number = 61; place = at; steps = done })
     exceeding-long is = record { says = λ L s good tells counted few size. exceeding-says is good tells counted few size }

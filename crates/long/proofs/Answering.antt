@@ -5,10 +5,8 @@ use mathlib.Core.List.{List}
 use native.Mathlib.Omega.{arith}
 use lib.ListN.{length, get_or}
 use Rattle.frames.specs.Database.{Database, database, statement_at}
-use Rattle.frames.specs.Verdict.{Checked, number_of}
+use Rattle.frames.specs.Verdict.{Checked, number_of, Verdict, Good, Refused}
 use Rattle.frames.specs.declared.Refusal.{Refusal}
-use Rattle.frames.specs.declared.Verdict.{Verdict}
-use Rattle.frames.specs.declared.Verdict.TheVariants.{Good, Refused}
 use Rattle.machine.specs.Answer as answers
 use Rattle.machine.specs.Bench.{answer, answer_good}
 use Rattle.machine.specs.Memory.{Room, limited}
@@ -16,7 +14,7 @@ use Rattle.machine.specs.Run.{run}
 use Rattle.machine.proofs.Counts.{run-counted}
 use Rattle.machine.proofs.Numbers.{file-number}
 use Rattle.resolve.specs.Filed.{Filed}
-use Rattle.findings.specs.declared.Answer.{Answer}
+use Rattle.findings.specs.Answers.{Answer}
 use Rattle.findings.specs.Tells.{Tells}
 use Rattle.postorder.specs.LongForm.{long_of, long_answer}
 use Rattle.told.specs.declared.Told.{Told}

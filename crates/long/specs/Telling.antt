@@ -4,7 +4,7 @@ use Rattle.frames.specs.Database.{database, GoodFile}
 use Rattle.machine.specs.Bench.{ended}
 use Rattle.machine.specs.Promise.{Counted}
 use Rattle.machine.specs.Run.{State}
-use Rattle.findings.specs.declared.Answer.{Answer}
+use Rattle.findings.specs.Answers.{Answer}
 use Rattle.findings.specs.Tells.{Tells}
 use Rattle.postorder.specs.LongForm.{long_of}
 use Rattle.told.specs.declared.Told.{Told}

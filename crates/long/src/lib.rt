@@ -13,7 +13,7 @@ use crate::writing::tell_long;
 use clearing::{clear_bytes, clear_words64};
 use filecheck::check;
 use frames::numbers::StatementNo;
-use frames::{Verdict, fields};
+use frames::fields;
 use proving::offsets;
 use proving::statement::prove_statement;
 use told::Told;
@@ -72,19 +72,16 @@ fn long_file(
     let mut symbols = offsets();
     let mut statements = offsets();
     match check(file, &mut symbols, &mut statements) {
-        Verdict::Refused { why, place } => Told {
-            number: frames::number(why),
-            place: place,
+        Err(away) => Told {
+            number: frames::number(away.why),
+            place: away.place,
             steps: 0,
         },
-        Verdict::Good {
-            symbols: n,
-            statements: k,
-        } => {
+        Ok(sizes) => {
             long_statement(
                 file,
-                &symbols[..n],
-                &statements[..k],
+                &symbols[..sizes.symbols],
+                &statements[..sizes.statements],
                 StatementNo(p),
                 pool,
                 stack,

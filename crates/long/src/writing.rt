@@ -6,7 +6,7 @@ ghost use Rattle.postorder.specs.LongForm.{entries_for};
 ghost use Rattle.long.specs.Telling.{TellsLong};
 
 use findings::Answer;
-use long_text::{Written, write_long};
+use long_text::write_long;
 use told::{Told, tell};
 
 // Room for the sizes of 131,072 tree entries.
@@ -53,12 +53,12 @@ fn long_accepted(
     let mut sizes = entry_sizes();
     let mut pending = pending_words();
     match write_long(file, tree, nodes, word, &mut sizes, &mut pending, output) {
-        Written::Whole(n) => Told {
+        Some(n) => Told {
             number: 0,
             place: n,
             steps: steps,
         },
-        Written::TooLong => Told {
+        None => Told {
             number: 61,
             place: place,
             steps: steps,
@@ -71,12 +71,16 @@ pub fn tell_long(file: &[u8], tree: &[u64], lent: usize, answer: Answer, output:
     ensures { TellsLong file.now tree.now lent answer output.old output.new result }
 {
     match answer {
-        Answer::Accepted {
-            place,
-            steps,
-            word,
-            nodes,
-        } => long_accepted(file, tree, lent, place, steps, word, nodes, output),
-        Answer::Refused(x) => tell(Answer::Refused(x)),
+        Ok(accepted) => long_accepted(
+            file,
+            tree,
+            lent,
+            accepted.place,
+            accepted.steps,
+            accepted.word,
+            accepted.nodes,
+            output,
+        ),
+        Err(x) => tell(Err(x)),
     }
 }

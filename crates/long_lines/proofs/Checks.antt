@@ -6,10 +6,8 @@ use mathlib.Core.List.{List}
 use native.Mathlib.Omega.{arith}
 use lib.ListN.{length}
 use Rattle.frames.specs.Logic.{below}
-use Rattle.frames.specs.Verdict.{Checked}
+use Rattle.frames.specs.Verdict.{Checked, Verdict, Good, Refused}
 use Rattle.frames.specs.declared.Refusal.TheVariants.{TooMany}
-use Rattle.frames.specs.declared.Verdict.{Verdict}
-use Rattle.frames.specs.declared.Verdict.TheVariants.{Good, Refused}
 use Rattle.frames.proofs.Chains.{below_true, below_false}
 use Rattle.long_lines.specs.Writing.{Taken}
 

@@ -11,8 +11,7 @@ use Rattle.frames.specs.Database.{Statement, Database, database, statement_at}
 use Rattle.frames.specs.Facts.{statement_of}
 use Rattle.frames.proofs.Chains.{equal-yes, equal-no, equal-true, pick_first, pick_second}
 use Rattle.frames.proofs.Tables.{laid-front}
-use Rattle.packed.specs.Pool.{Adds}
-use Rattle.packed.specs.declared.pool.Grown.{Grown}
+use Rattle.packed.specs.Pool.{Adds, Grown}
 use Rattle.packed.proofs.Adding.{adds_same}
 use Rattle.machine.specs.Answer.{Answer}
 use Rattle.machine.specs.Bench.{answer, answer_good, judged}

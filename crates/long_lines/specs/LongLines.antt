@@ -1,11 +1,9 @@
 -- What the program `longform` writes, for any bytes on standard input: for each $p one line with its label and its long form, or with its refusal.
-use Rattle.std.specs.Prelude.{ℕ, List, [], ◌∷◌, ◌++◌, length}
+use Rattle.std.specs.Prelude.{ℕ, List, [], ◌∷◌, ◌++◌, length, Ok, Err}
 use Rattle.frames.specs.Logic.{below, equal, pick}
-use Rattle.frames.specs.Verdict.{verdict, number_of}
+use Rattle.frames.specs.Verdict.{verdict, number_of, Verdict}
 use Rattle.frames.specs.Database.{database}
 use Rattle.frames.specs.Facts.{statement_of}
-use Rattle.frames.specs.declared.Verdict.{Verdict}
-use Rattle.frames.specs.declared.Verdict.TheVariants.{Good, Refused}
 use Rattle.packed.specs.Pool.{joined}
 use Rattle.postorder.specs.LongForm.{LongAnswer, long_answer}
 use Rattle.verdict_text.specs.Text.{decimal, line, refused_line}
@@ -42,8 +40,8 @@ long_lines f = joined (long_line_of f) (provable (database f))
 
 -- by the verdict on the file
 unfoldable pub long_text_of : Verdict → List ℕ → List ℕ
-long_text_of (Good symbols statements) f = long_lines f
-long_text_of (Refused why place) f = refused_line (number_of why) place
+long_text_of (Ok sizes) f = long_lines f
+long_text_of (Err away) f = refused_line (number_of away.why) away.place
 
 -- more than 65,536 bytes are `refused 2 0`
 unfoldable pub long_output_of : List ℕ → List ℕ

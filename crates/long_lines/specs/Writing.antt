@@ -1,9 +1,7 @@
 -- What the functions of the program hand to each other.
 use Rattle.std.specs.Prelude.{ℕ, ◌≤◌, ◌<◌, ◌≡◌, List, length}
-use Rattle.frames.specs.Verdict.{Checked}
+use Rattle.frames.specs.Verdict.{Checked, Verdict, Refused}
 use Rattle.frames.specs.declared.Refusal.TheVariants.{TooMany}
-use Rattle.frames.specs.declared.Verdict.{Verdict}
-use Rattle.frames.specs.declared.Verdict.TheVariants.{Refused}
 use Rattle.told.specs.declared.Told.{Told}
 
 -- where 0 is told, the text lies within what was lent for it

@@ -11,10 +11,9 @@ ghost use Rattle.long_lines.specs.Writing.{Within, Taken};
 
 use filecheck::check;
 use frames::numbers::StatementNo;
-use frames::{Refusal, Verdict, fields};
+use frames::{Refusal, TurnedAway, Verdict, fields};
 use lines::{add_text, then_number, then_text, then_two};
 use long::long_statement;
-use packed::pool::Grown;
 use proving::offsets;
 use reply::{all_read, input_room, is_provable, places_room, pool_room, stack_room};
 use told::Told;
@@ -39,7 +38,7 @@ fn line_room() -> [u8; 65728]
 }
 
 // Puts a label and a word right after it at the start of out.
-fn put_named(out: &mut [u8], label: &[u8], word: &[u8]) -> Grown
+fn put_named(out: &mut [u8], label: &[u8], word: &[u8]) -> Option<usize>
     ensures { Adds (label.now ++ word.now) 0 (length out.old) out.old out.new result }
 {
     let name = add_text(out, 0, label);
@@ -47,7 +46,7 @@ fn put_named(out: &mut [u8], label: &[u8], word: &[u8]) -> Grown
 }
 
 // Puts `LABEL: TEXT` at the start of out.
-fn put_long(out: &mut [u8], label: &[u8], text: &[u8]) -> Grown
+fn put_long(out: &mut [u8], label: &[u8], text: &[u8]) -> Option<usize>
     ensures { Adds (text_line label.now text.now) 0 (length out.old) out.old out.new result }
 {
     let name = put_named(out, label, b": ");
@@ -56,7 +55,7 @@ fn put_long(out: &mut [u8], label: &[u8], text: &[u8]) -> Grown
 }
 
 // Puts `LABEL refused NUMBER PLACE STEPS` at the start of out.
-fn put_refusal(out: &mut [u8], label: &[u8], number: usize, place: usize, steps: usize) -> Grown
+fn put_refusal(out: &mut [u8], label: &[u8], number: usize, place: usize, steps: usize) -> Option<usize>
     ensures { Adds (refusal_line label.now number place steps) 0 (length out.old) out.old out.new result }
 {
     let name = put_named(out, label, b" refused ");
@@ -66,7 +65,7 @@ fn put_refusal(out: &mut [u8], label: &[u8], number: usize, place: usize, steps:
 }
 
 // Puts the line of what is told of a label. Where that is 0, the text stands at the front of what was lent for it.
-fn put_told(out: &mut [u8], label: &[u8], told: Told, text: &[u8]) -> Grown
+fn put_told(out: &mut [u8], label: &[u8], told: Told, text: &[u8]) -> Option<usize>
     requires { Within told text.now }
     ensures { Adds (line_for label.now told.number told.place told.steps (take told.place text.now)) 0 (length out.old) out.old out.new result }
 {
@@ -85,7 +84,7 @@ fn put_statement(
     statements: &[u32],
     p: StatementNo,
     out: &mut [u8],
-) -> Grown
+) -> Option<usize>
     requires { Filed file.now symbols.now statements.now × (p.0 < length statements.now) }
     ensures { Adds (long_line_of file.now p.0) 0 (length out.old) out.old out.new result }
 {
@@ -124,10 +123,7 @@ fn put_line(
     ensures prefix_len { IsPrefixLen result out.new }
     ensures out_after { take result out.new ≡ long_line_of file.now p.0 }
 {
-    match put_statement(file, symbols, statements, p, out) {
-        Grown::To(n) => n,
-        Grown::Full => 0,
-    }
+    put_statement(file, symbols, statements, p, out).unwrap_or(0)
 }
 
 // Writes the line of statement p, a $p of a checked file.
@@ -158,10 +154,10 @@ fn check_input(input: &[u8], symbols: &mut [u32; 4096], statements: &mut [u32; 4
     ensures { Taken input.now symbols.old statements.old symbols.new statements.new result }
 {
     if input.len() > 65536 {
-        return Verdict::Refused {
+        return Err(TurnedAway {
             why: Refusal::TooMany,
             place: 0,
-        };
+        });
     }
     check(input, symbols, statements)
 }
@@ -171,17 +167,12 @@ fn write_reply(input: &[u8]) {
     let mut symbols = offsets();
     let mut statements = offsets();
     match check_input(input, &mut symbols, &mut statements) {
-        Verdict::Refused { why, place } => verdict_text::print(
-            STDOUT_FILENO,
-            Verdict::Refused {
-                why: why,
-                place: place,
-            },
+        Err(away) => verdict_text::print(STDOUT_FILENO, Err(away)),
+        Ok(sizes) => write_lines(
+            input,
+            &symbols[..sizes.symbols],
+            &statements[..sizes.statements],
         ),
-        Verdict::Good {
-            symbols: n,
-            statements: k,
-        } => write_lines(input, &symbols[..n], &statements[..k]),
     }
 }
 

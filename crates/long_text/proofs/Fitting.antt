@@ -1,5 +1,6 @@
 -- A text that is measured before it is written: the capped size of a derivation tells whether the text fits (`fits-capped`), and where it does, the size is not
 -- capped, so that it is the length of the text and one more (`fitting`).
+use Rattle.std.proofs.Common.{Some, None}
 use Prim.Native.Nat.{ℕ, suc, ◌+◌, ◌-◌, ◌≤◌, ◌<◌}
 use mathlib.Core.Path.{◌≡◌, refl, ap, ◌∙◌}
 use mathlib.Core.Bool.{true, false}
@@ -15,7 +16,6 @@ use Rattle.postorder.proofs.Sizes.{text-length}
 use Rattle.sizes.specs.Measured.{capped, size_at, Measures}
 use Rattle.sizes.proofs.Caps.{fits-capped}
 use Rattle.spell.specs.Text.{WritesText}
-use Rattle.long_text.specs.declared.Written.TheVariants.{Whole, TooLong}
 use Rattle.long_text.specs.Long.{answer_of, output_of, Tells, Long, WritesLong}
 
 -- every derivation has a label, and that has a space
@@ -60,20 +60,20 @@ module _ (db : Database) (tree : Tree) (told : ℕ) (is : suc told ≡ capped (t
   told-long output l = fits-capped db tree _ (most-few _) ∙ at_most-no (omega arith)
 
   -- a text that is too long is not written
-  long-untouched : (output : List ℕ) → most_bytes (length output) < told → Long db tree output output TooLong
+  long-untouched : (output : List ℕ) → most_bytes (length output) < told → Long db tree output output None
   unfolding answer_of output_of
   long-untouched output l = record { answered = pick_second _ (told-long output l) refl; written = pick_second _ (told-long output l) refl }
 
   -- a text that fits is
-  long-whole : (output output' : List ℕ) → told ≤ most_bytes (length output) → output' ≡ long_text db tree ++ drop told output → Long db tree output output' (Whole told)
+  long-whole : (output output' : List ℕ) → told ≤ most_bytes (length output) → output' ≡ long_text db tree ++ drop told output → Long db tree output output' (Some told)
   unfolding answer_of output_of laid
   long-whole output output' l e =
       let exactly = told-length (omega (arith, most-few (length output))) in
-      record { answered = pick_first _ (told-fits output l) (ap Whole exactly); written = pick_first _ (told-fits output l) (rw exactly at e) }
+      record { answered = pick_first _ (told-fits output l) (ap Some exactly); written = pick_first _ (told-fits output l) (rw exactly at e) }
 
 module _ (f entries : List ℕ) (nodes word : ℕ) (sizes pending output : List ℕ) (most told : ℕ) (is : most ≡ most_bytes (length output))
     (tells : Tells f entries nodes word (length sizes) told) where
-  pub too_long : most < told → WritesLong f entries nodes word sizes pending output output TooLong
+  pub too_long : most < told → WritesLong f entries nodes word sizes pending output output None
   too_long l = record {
     sized = refl;
     untouched = λ e. refl;
@@ -81,7 +81,7 @@ module _ (f entries : List ℕ) (nodes word : ℕ) (sizes pending output : List 
   }
 
   pub whole : (output' : List ℕ) → told ≤ most → WritesText f entries word told pending output output'
-      → WritesLong f entries nodes word sizes pending output output' (Whole told)
+      → WritesLong f entries nodes word sizes pending output output' (Some told)
   whole output' l writes = record {
     sized = writes.sized;
     untouched = λ e. let z : ◌≡◌ {A = ℕ} 0 1 = cc in absurd (omega arith);

@@ -8,13 +8,6 @@ ghost use Rattle.long_text.specs.Long.{Tells, WritesLong};
 use sizes::{measure, size_of};
 use spell::text::write_text;
 
-// What was written: the whole text, with its length; or nothing, since it is too long.
-#[derive(Clone, Copy)]
-pub enum Written {
-    Whole(usize),
-    TooLong,
-}
-
 // The greatest length of a text, where so many bytes of output are lent.
 fn most_bytes(output: usize) -> usize
     ensures { result ≡ most_bytes output }
@@ -37,7 +30,8 @@ fn text_length(file: &[u8], tree: &[u64], nodes: usize, word: u64, sizes: &mut [
     without_space(size_of(file, sizes, word))
 }
 
-// Writes the text of the derivation that a word stands for into the front of the output, where it has at most 65,536 bytes and the output as many.
+// Writes the text of the derivation that a word stands for into the front of the output, where it has at most 65,536 bytes and the output as many: its length,
+// or none where it is too long.
 pub fn write_long(
     file: &[u8],
     tree: &[u64],
@@ -46,14 +40,14 @@ pub fn write_long(
     sizes: &mut [u32],
     pending: &mut [u64],
     output: &mut [u8],
-) -> Written
+) -> Option<usize>
     ensures { WritesLong file.now tree.now nodes word sizes.old pending.old output.old output.new result }
 {
     let most = most_bytes(output.len());
     let length = text_length(file, tree, nodes, word, sizes);
     if most < length {
-        return Written::TooLong;
+        return None;
     }
     write_text(file, tree, word, length, pending, output);
-    Written::Whole(length)
+    Some(length)
 }

@@ -11,9 +11,7 @@ use Rattle.book.specs.Book.{Expression, Tree, Derives}
 use Rattle.frames.specs.Logic.{below, equal, pick}
 use Rattle.frames.specs.Database.{Statement, Database, database}
 use Rattle.frames.specs.Facts.{statement_of, Facts}
-use Rattle.frames.specs.Verdict.{verdict}
-use Rattle.frames.specs.declared.Verdict.{Verdict}
-use Rattle.frames.specs.declared.Verdict.TheVariants.{Good, Refused}
+use Rattle.frames.specs.Verdict.{verdict, Verdict, Good, Refused}
 use Rattle.frames.proofs.Chains.{equal-true, below_true, below_false}
 use Rattle.frames.proofs.Tells.{no_false}
 use Rattle.frames.proofs.Found.{same_true}

@@ -9,8 +9,7 @@ use lib.ListN.{length, drop, length-drop}
 use Rattle.book.specs.Book.{Expression, Substitution}
 use Rattle.frames.specs.Logic.{pick}
 use Rattle.frames.specs.Database.{Statement, Database, database}
-use Rattle.frames.specs.Verdict.{verdict}
-use Rattle.frames.specs.declared.Verdict.TheVariants.{Good}
+use Rattle.frames.specs.Verdict.{verdict, Good}
 use Rattle.frames.specs.Facts.{statement_of}
 use Rattle.frames.proofs.Chains.{below_false, equal-yes}
 use Rattle.machine.specs.declared.Refusal.{Refusal}

@@ -1,12 +1,10 @@
 -- The bench's answer for a frame file, a statement number and the room lent. It depends on nothing else: the definition has the sizes of
 -- what is lent and not its bytes.
-use Rattle.std.specs.Prelude.{ℕ, List}
+use Rattle.std.specs.Prelude.{ℕ, List, Ok, Err}
 use Rattle.frames.specs.Logic.{equal, pick}
 use Rattle.frames.specs.Database.{Database, database}
 use Rattle.frames.specs.Facts.{statement_of}
-use Rattle.frames.specs.Verdict.{verdict}
-use Rattle.frames.specs.declared.Verdict.{Verdict}
-use Rattle.frames.specs.declared.Verdict.TheVariants.{Good, Refused}
+use Rattle.frames.specs.Verdict.{verdict, Verdict}
 use Rattle.machine.specs.Answer.{Answer, turned_away, not_provable}
 use Rattle.machine.specs.Memory.{Room, limited}
 use Rattle.machine.specs.Run.{State, going, over, run}
@@ -23,8 +21,8 @@ answer_good db p room =
 
 -- 1 to 7 come from the frame file
 unfoldable pub judged : Verdict → Answer → Answer
-judged (Good symbols statements) a = a
-judged (Refused why place) a = turned_away why place
+judged (Ok sizes) a = a
+judged (Err away) a = turned_away away.why away.place
 
 unfoldable pub answer : List ℕ → ℕ → Room → Answer
 answer file p room = judged (verdict file) (answer_good (database file) p room)

@@ -1,5 +1,6 @@
 -- The definition of a run, in the order in which it is read.
 pub mod Chain
+pub mod Passed
 pub mod Answer
 pub mod Ground
 pub mod Reading

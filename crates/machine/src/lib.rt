@@ -3,7 +3,7 @@
 #![tactic(auto)]
 
 // Why a proof is refused, in the order of the paper's numbers, 20 to 46.
-#[derive(Clone, Copy)]
+#[derive(Clone, Copy, Debug, PartialEq, Eq)]
 pub enum Refusal {
     BadByte,
     ProofUnterminatedRoster,
@@ -35,7 +35,7 @@ pub enum Refusal {
 }
 
 // The class of a letter of a compressed proof: the last digit of a step's place, a higher digit, `Z`, `?`, or a byte that is ignored.
-#[derive(Clone, Copy)]
+#[derive(Clone, Copy, Debug, PartialEq, Eq)]
 pub enum Letter {
     Last(usize),
     Higher(usize),

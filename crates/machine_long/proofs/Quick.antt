@@ -1,6 +1,7 @@
 -- A quicker way to the answer of a run, for long files. The definition finds each byte from the front of the file; here a record is read at
 -- the front of what is left of the file, and what it names by number is looked up among the records already decoded. The answer
 -- is the same for every list of bytes: `answer-same` (Same.antt). No reader has to believe this file.
+use Rattle.std.proofs.Common.{Some, None}
 use Prim.Native.Nat.{ℕ, zero, suc, ◌+◌}
 use mathlib.Core.Bool.{Bool}
 use mathlib.Core.List.{List, [], ◌∷◌, ◌++◌}
@@ -8,14 +9,10 @@ use lib.ListN.{length, get_or, drop}
 use Rattle.frames.specs.Logic.{below, at_most, equal, pick, either, both, no, one_of, all, any, same, rising_from}
 use Rattle.frames.specs.Layout.{length_at, kind_at, next_at, asserts, supposes, is_statement, class_at, scope_end_at, rest_at, hyps_at, pairs_at, symbols_at}
 use Rattle.frames.specs.Table.{bad_record, too_many, name_byte, label_byte, within, equal_members, no_proof}
-use Rattle.frames.specs.Verdict.{Index, nothing, unless, end_verdict}
+use Rattle.frames.specs.Verdict.{Index, nothing, unless, end_verdict, Fault, Verdict, Refused}
 use Rattle.frames.specs.Database.{Symbol, Statement, Database, symbol_at, statement_at, decode}
 use Rattle.frames.specs.Facts.{typecode, floated}
 use Rattle.frames.specs.declared.Refusal.TheVariants.{BadRecord, TooMany, BadSymbol, BadLabel, BadReference, BadFrame, NoProof}
-use Rattle.frames.specs.declared.Fault.{Fault}
-use Rattle.frames.specs.declared.Fault.TheVariants.{Fine, Is}
-use Rattle.frames.specs.declared.Verdict.{Verdict}
-use Rattle.frames.specs.declared.Verdict.TheVariants.{Refused}
 use Rattle.machine.specs.Answer.{Answer}
 use Rattle.machine.specs.Memory.{Room}
 use Rattle.machine.specs.Bench.{answer_good, judged}
@@ -108,7 +105,7 @@ fault_here b db ix r st =
     (unless (both (is_statement st.kind) numbers) BadReference
     (unless (both (asserts st.kind) frame) BadFrame
     (unless (no_proof r ix.owed 0) NoProof
-    Fine))))))
+    None))))))
 
 -- the record at the front of `r`, whose offset is `o`
 unfoldable pub symbol_here : List ℕ → ℕ → Symbol
@@ -169,8 +166,8 @@ judged_at_end total db ix =
     record { verdict = end_verdict ix.owed total (length ix.symbols) (length ix.statements); database = db }
 
 unfoldable pub judged_here : Fault → ℕ → Database → Judged → Judged
-judged_here Fine o db rest = rest
-judged_here (Is why) o db rest = record { verdict = Refused why o; database = db }
+judged_here None o db rest = rest
+judged_here (Some why) o db rest = record { verdict = Refused why o; database = db }
 
 -- the records from offset `o` on, where `r` is the file from there and `total` its length
 unfoldable pub quick_walk : ℕ → ℕ → Symbol → Statement → Database → Index → ℕ → List ℕ → Judged

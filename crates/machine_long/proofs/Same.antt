@@ -1,5 +1,6 @@
 -- The quicker way gives the same answer, for every list of bytes: `answer-same`. By induction over the records: the decoded records are those
 -- of the index, and what is left is the file from the record's offset on, so each row of the table has the same truth value.
+use Rattle.std.proofs.Common.{Some, None}
 use Prim.Native.Nat.{ℕ, zero, suc, ◌+◌, ◌≤◌, ◌<◌}
 use mathlib.Core.Path.{◌≡◌, refl, sym, ap}
 use mathlib.Core.Bool.{Bool, true, false}
@@ -10,13 +11,10 @@ use lib.Seq.{drop-drop}
 use Rattle.frames.specs.Logic.{below, at_most, equal, pick, either, both, any}
 use Rattle.frames.specs.Layout.{length_at, kind_at, next_at, supposes, is_statement, scope_end_at, rest_at, typecode_at, variable_at}
 use Rattle.frames.specs.Table.{named, used, bad_symbol, bad_label, class_of, constant, variable, within, active, defined, variables, bad_numbers, bad_reference, float_of, float_below, has_float, symbol_given, all_given, lacks_float, second_float, bad_assertion, bad_frame}
-use Rattle.frames.specs.Verdict.{Index, nothing, Outcome, fault_at, after, refusal, at_end, decided, walk, outcome, verdict, index}
+use Rattle.frames.specs.Verdict.{Index, nothing, Outcome, fault_at, after, refusal, at_end, decided, walk, outcome, verdict, index, Fault, Refused}
 use Rattle.frames.specs.Database.{Statement, symbol_at, statement_at, decode, database}
 use Rattle.frames.specs.Facts.{typecode, floated}
 use Rattle.frames.specs.declared.Refusal.TheVariants.{TooMany}
-use Rattle.frames.specs.declared.Fault.{Fault}
-use Rattle.frames.specs.declared.Fault.TheVariants.{Fine, Is}
-use Rattle.frames.specs.declared.Verdict.TheVariants.{Refused}
 use Rattle.machine.specs.Memory.{Room}
 use Rattle.machine.specs.Bench.{answer}
 use Rattle.frames.proofs.Chains.{at_most-false}
@@ -123,8 +121,8 @@ judged_of f r = record { verdict = r.verdict; database = decode f r.index }
 decided-same : (f : List ℕ) (v : Fault) (o : ℕ) (ix : Index) (rest : Outcome) (rest' : Judged) → rest' ≡ judged_of f rest
     → judged_here v o (decode f ix) rest' ≡ judged_of f (decided v o ix rest)
 unfolding judged_here judged_of decided refusal
-decided-same f Fine o ix rest rest' e = e
-decided-same f (Is why) o ix rest rest' e = refl
+decided-same f None o ix rest rest' e = e
+decided-same f (Some why) o ix rest rest' e = refl
 
 -- the end of the file, a file that is too long, and one record after another
 pick-along : {A B : Type 0} (g : A → B) (t : Bool) (a b : A) (a' b' : B) → a' ≡ g a → (t ≡ false → b' ≡ g b)

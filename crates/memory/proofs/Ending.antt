@@ -1,4 +1,5 @@
 -- Outcomes against the definition's results: refusals, and a row more on the stack or among the places.
+use Rattle.std.proofs.Common.{Ok, Err}
 use Prim.Native.Nat.{ℕ, ◌≤◌, ◌<◌}
 use mathlib.Core.Path.{◌≡◌, refl, sym, ◌∙◌, ap}
 use mathlib.Core.Bool.{Bool, true, false}
@@ -15,8 +16,7 @@ use Rattle.machine.specs.Memory.{Prepared, Entry, Memory, push, add_place}
 use Rattle.tree.specs.Recorded.{Applications, Denotes}
 use Rattle.memory.specs.declared.table.Row.{Row}
 use Rattle.memory.specs.declared.Counts.{Counts}
-use Rattle.memory.specs.declared.Outcome.{Outcome}
-use Rattle.memory.specs.declared.Outcome.TheVariants.{Go, Refused}
+use Rattle.memory.specs.Outcome.{Outcome}
 use Rattle.memory.specs.Table.{with_row}
 use Rattle.memory.specs.Shown.{Bench, Lent, Down, Means, mark_of, EntryShown, PlaceShown, NodeShown, NodePlaced, Derivations, Holding, Records, Shown, Ends, goes, refuses, with_nodes, with_stack, with_places_table, placed, Pushes, AddsPlace}
 use Rattle.memory.proofs.Showing.{down-length, shown-pushed, shown-placed}
@@ -27,7 +27,7 @@ module _ {P : Counts → Memory → Type 0} where
   ends_by e f x = rw (e, f) x
 
   -- a test that holds refuses; one that does not is passed
-  pub ends-stop : {t : Bool} {why : Refusal} (rest : Result Memory) → t ≡ true → Ends P (unless t why rest) (Refused why)
+  pub ends-stop : {t : Bool} {why : Refusal} (rest : Result Memory) → t ≡ true → Ends P (unless t why rest) (Err why)
   unfolding unless
   ends-stop rest e = rw e refuses
 
@@ -36,10 +36,10 @@ module _ {P : Counts → Memory → Type 0} where
   ends-skip why e x = rw e x
 
   -- what a run that goes on has
-  pub ends-go : {r : Result Memory} {c : Counts} → Ends P r (Go c) → (m : Memory) × (r ≡ fine m) × P c m
+  pub ends-go : {r : Result Memory} {c : Counts} → Ends P r (Ok c) → (m : Memory) × (r ≡ fine m) × P c m
   ends-go (goes {m = m} p) = (m, refl, p)
 
-  pub ends-refused : {r : Result Memory} {why : Refusal} → Ends P r (Refused why) → r ≡ stop why
+  pub ends-refused : {r : Result Memory} {why : Refusal} → Ends P r (Err why) → r ≡ stop why
   ends-refused refuses = refl
 
 module _ {b : Bench} {l : Lent} {c : Counts} {m : Memory} (s : Shown b l c m) where

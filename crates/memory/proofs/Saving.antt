@@ -1,4 +1,5 @@
 -- The top of the stack saved as a place.
+use Rattle.std.proofs.Common.{Err}
 use Prim.Native.Nat.{ℕ, ◌-◌, ◌*◌, ◌≤◌}
 use mathlib.Core.Path.{◌≡◌, refl, sym}
 use mathlib.Core.List.{List, ◌∷◌}
@@ -10,8 +11,7 @@ use Rattle.machine.specs.Memory.{recalls, Entry, Memory, save_top, add_place}
 use Rattle.tree.specs.Recorded.{Applications, Denotes}
 use Rattle.memory.specs.declared.table.Row.{Row}
 use Rattle.memory.specs.declared.Counts.{Counts}
-use Rattle.memory.specs.declared.Outcome.{Outcome}
-use Rattle.memory.specs.declared.Outcome.TheVariants.{Refused}
+use Rattle.memory.specs.Outcome.{Outcome}
 use Rattle.memory.specs.Table.{RowAt}
 use Rattle.memory.specs.Shown.{Bench, Lent, Down, bottom, over, Means, EntryShown, recalled, NodeShown, Shown, Ends, refuses, with_places_table, unmarked_row, AddsPlace, SavesTop}
 use Rattle.memory.proofs.Tables.{row_new, row_one, row-four}
@@ -24,13 +24,13 @@ unmarked-means m =
     record { typecode = m.typecode; rises = m.rises; within = m.within; symbols = m.symbols; defined = m.defined; known = m.known; numbers = m.numbers }
 
 module _ {stack places : List ℕ} (c : Counts) {limit : ℕ} where
-  pub saves-none : c.depth ≡ 0 → SavesTop stack places c limit places (Refused ProofInvalidSave)
+  pub saves-none : c.depth ≡ 0 → SavesTop stack places c limit places (Err ProofInvalidSave)
   unfolding save_top
   saves-none nothing = record { follows = λ b l m e f g s. empty b l m nothing s.stack }
     where
       empty : (b : Bench) (l : Lent) (m : Memory) {n : ℕ} {es : List Entry} → n ≡ 0
           → Down (EntryShown (database b.file) m.variables l.pool c.used b.text l.stack) n es
-          → Ends (Shown b (with_places_table l places)) (save_top b.room m es) (Refused ProofInvalidSave)
+          → Ends (Shown b (with_places_table l places)) (save_top b.room m es) (Err ProofInvalidSave)
       empty b l m e bottom = refuses
       empty b l m e (over f p d) = absurd (omega arith)
 

@@ -1,3 +1,4 @@
 -- The working memory of a run.
 pub mod Table
+pub mod Outcome
 pub mod Shown

@@ -1,7 +1,7 @@
 -- What the working memory shows: which memory of the definition the lent tables and the counts stand for.
-use Rattle.std.specs.Prelude.{ℕ, zero, suc, ◌+◌, ◌*◌, ◌≤◌, ◌<◌, ◌≡◌, true, ◌⊎◌, List, [], ◌∷◌, ◌++◌, length}
+use Rattle.std.specs.Prelude.{ℕ, zero, suc, ◌+◌, ◌*◌, ◌≤◌, ◌<◌, ◌≡◌, true, ◌⊎◌, List, [], ◌∷◌, ◌++◌, length, Ok, Err}
 use Rattle.std.proofs.Math.Option.{Option, none, some}
-use Rattle.book.specs.Book.{Expression}
+use Rattle.book.specs.Book.{Expression, Tree}
 use Rattle.frames.specs.Logic.{at_most, pick}
 use Rattle.frames.specs.Database.{Database, database}
 use Rattle.frames.specs.Facts.{◌∈◌, statement_of}
@@ -16,14 +16,12 @@ use Rattle.packed.specs.Images.{Numbers}
 use Rattle.packed.specs.Lists.{Defined}
 use Rattle.variables.specs.Numbering.{Numbered}
 use Rattle.resolve.specs.Locals.{locals_of}
-use Rattle.book.specs.Book.{Tree}
 use Rattle.tree.specs.Recorded.{Applications, Within, Denotes, Recorded}
 use Rattle.memory.specs.Table.{RowAt, with_row}
 use Rattle.memory.specs.declared.table.Row.{Row}
 use Rattle.memory.specs.declared.Counts.{Counts}
 use Rattle.memory.specs.declared.Limits.{Limits}
-use Rattle.memory.specs.declared.Outcome.{Outcome}
-use Rattle.memory.specs.declared.Outcome.TheVariants.{Go, Refused}
+use Rattle.memory.specs.Outcome.{Outcome}
 
 -- what is under check: the file with its index, the statement, the room that may be used, and the text
 pub record Bench : Type 0 where
@@ -161,8 +159,8 @@ pub record Shown (b : Bench) (l : Lent) (c : Counts) (m : Memory) : Type 0 where
 
 -- the outcome is the definition's: it goes on with what has the property, or refuses alike
 pub data Ends (P : Counts → Memory → Type 0) : Result Memory → Outcome → Type 0 where
-  goes : {c : Counts} {m : Memory} → P c m → Ends P (fine m) (Go c)
-  refuses : {why : Rattle.machine.specs.declared.Refusal.Refusal} → Ends P (stop why) (Refused why)
+  goes : {c : Counts} {m : Memory} → P c m → Ends P (fine m) (Ok c)
+  refuses : {why : Rattle.machine.specs.declared.Refusal.Refusal} → Ends P (stop why) (Err why)
 
 -- the tables with these numbers and this pool; with this stack; with these places
 abbrev pub with_pool : Lent → List ℕ → List ℕ → Lent
@@ -221,12 +219,12 @@ with_tree l tree = record { numbers = l.numbers; pool = l.pool; stack = l.stack;
 
 -- a row is put over the `left` entries that stay, or there is no room
 pub record Pushes (stack : List ℕ) (c : Counts) (limit left : ℕ) (row : Row) (stack' : List ℕ) (answer : Outcome) : Type 0 where
-  pub answers : answer ≡ pick (at_most limit left) (Refused StackFull) (Go (with_depth c (left + 1)))
+  pub answers : answer ≡ pick (at_most limit left) (Err StackFull) (Ok (with_depth c (left + 1)))
   pub holds : stack' ≡ pick (at_most limit left) stack (with_row row left stack)
 
 -- a row takes the next place, or there is no room
 pub record AddsPlace (places : List ℕ) (c : Counts) (limit : ℕ) (row : Row) (places' : List ℕ) (answer : Outcome) : Type 0 where
-  pub answers : answer ≡ pick (at_most limit c.places) (Refused PlacesFull) (Go (with_places c (c.places + 1)))
+  pub answers : answer ≡ pick (at_most limit c.places) (Err PlacesFull) (Ok (with_places c (c.places + 1)))
   pub holds : places' ≡ pick (at_most limit c.places) places (with_row row c.places places)
 
 -- a row without its mark

@@ -28,8 +28,4 @@ pub struct Limits {
 }
 
 // The run goes on with these counts, or the proof is refused.
-#[derive(Clone, Copy)]
-pub enum Outcome {
-    Go(Counts),
-    Refused(Refusal),
-}
+pub type Outcome = Result<Counts, Refusal>;

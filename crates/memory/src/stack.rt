@@ -13,10 +13,10 @@ pub fn push(stack: &mut [u64], c: Counts, limit: usize, left: usize, row: Row) -
     ensures { Pushes stack.old c limit left row stack.new result }
 {
     if limit <= left {
-        return Outcome::Refused(Refusal::StackFull);
+        return Err(Refusal::StackFull);
     }
     put_row(stack, left, row);
-    Outcome::Go(Counts {
+    Ok(Counts {
         used: c.used,
         count: c.count,
         places: c.places,
@@ -33,10 +33,10 @@ pub fn add_place(places: &mut [u64], c: Counts, limit: usize, row: Row) -> Outco
 {
     let next = c.places;
     if limit <= next {
-        return Outcome::Refused(Refusal::PlacesFull);
+        return Err(Refusal::PlacesFull);
     }
     put_row(places, next, row);
-    Outcome::Go(Counts {
+    Ok(Counts {
         used: c.used,
         count: c.count,
         places: next + 1,
@@ -69,7 +69,7 @@ pub fn save_top(stack: &[u64], places: &mut [u64], c: Counts, limit: usize) -> O
 {
     let depth = c.depth;
     if depth == 0 {
-        return Outcome::Refused(Refusal::ProofInvalidSave);
+        return Err(Refusal::ProofInvalidSave);
     }
     let row = row_at(stack, depth - 1);
     add_place(places, c, limit, saved(row))

@@ -1,4 +1,5 @@
 -- Comparing with the pool: a text that is met at a place, and a row of texts that are met one after another.
+use Rattle.std.proofs.Common.{Some, None}
 use Prim.Native.Nat.{ℕ, zero, suc, ◌+◌, ◌-◌, ◌%◌, ◌≤◌, ◌<◌}
 use mathlib.Core.Path.{◌≡◌, refl, sym, ap, ◌∙◌}
 use mathlib.Core.Bool.{Bool, true, false}
@@ -15,9 +16,7 @@ use Rattle.frames.proofs.Loops.{Here, here-list, same-lengths}
 use Rattle.frames.proofs.Tells.{true-not-false}
 use Rattle.packed.specs.Packing.{ended}
 use Rattle.packed.specs.Pool.{range, spelled, joined}
-use Rattle.packed.specs.Compare.{met}
-use Rattle.packed.specs.declared.compare.Met.{Met}
-use Rattle.packed.specs.declared.compare.Met.TheVariants.{To, Differs}
+use Rattle.packed.specs.Compare.{met, Met}
 use Rattle.packed.proofs.Written.{range_length}
 use Rattle.packed.proofs.Copies.{range_at}
 
@@ -80,19 +79,19 @@ here-range at n pool i h k =
     rw (range_at at (at + n) pool i (omega arith)) at (here-list (range at (at + n) pool) i 0 l)
 
 -- the answer of `met` by its test
-met-yes : (t : Bool) (n c : ℕ) → To c ≡ pick t (To n) Differs → (t ≡ true) × (c ≡ n)
+met-yes : (t : Bool) (n c : ℕ) → Some c ≡ pick t (Some n) None → (t ≡ true) × (c ≡ n)
 unfolding pick
 met-yes true n c e = (refl, cc)
 met-yes false n c e = let z : ◌≡◌ {A = ℕ} 0 1 = cc in absurd (omega arith)
 
-met-no : (t : Bool) (n : ℕ) → Differs ≡ pick t (To n) Differs → t ≡ false
+met-no : (t : Bool) (n : ℕ) → None ≡ pick t (Some n) None → t ≡ false
 unfolding pick
 met-no true n e = let z : ◌≡◌ {A = ℕ} 0 1 = cc in absurd (omega arith)
 met-no false n e = refl
 
 module _ (text : List ℕ) (at to n : ℕ) (pool : List ℕ) (size : length text ≡ n) where
   -- a text that is too long is not met
-  pub meet-short : at ≤ to → to ≤ length pool → to - at < n → Differs ≡ met text at to pool
+  pub meet-short : at ≤ to → to ≤ length pool → to - at < n → None ≡ met text at to pool
   unfolding met
   meet-short h k l =
       pick_second _
@@ -100,17 +99,17 @@ module _ (text : List ℕ) (at to n : ℕ) (pool : List ℕ) (size : length text
       refl
 
   -- the test of a text against as many bytes decides
-  pub meet-yes : at + n ≤ to → same text (range at (at + n) pool) ≡ true → To (at + n) ≡ met text at to pool
+  pub meet-yes : at + n ≤ to → same text (range at (at + n) pool) ≡ true → Some (at + n) ≡ met text at to pool
   unfolding met
   meet-yes h e = rw size (pick_first _ (rw (range-take at to n pool h) e) refl)
 
-  pub meet-no : at + n ≤ to → same text (range at (at + n) pool) ≡ false → Differs ≡ met text at to pool
+  pub meet-no : at + n ≤ to → same text (range at (at + n) pool) ≡ false → None ≡ met text at to pool
   unfolding met
   meet-no h e = rw size (pick_second _ (rw (range-take at to n pool h) e) refl)
 
 module _ (text : List ℕ) (at to : ℕ) (pool : List ℕ) (rises : at ≤ to) (fits : to ≤ length pool) where
   -- after a text that was met, the rest of the range follows
-  met-rest : (c : ℕ) → To c ≡ met text at to pool → (c ≤ to) × (range at to pool ≡ text ++ range c to pool)
+  met-rest : (c : ℕ) → Some c ≡ met text at to pool → (c ≤ to) × (range at to pool ≡ text ++ range c to pool)
   unfolding met
   met-rest c e =
       let p = met-yes _ _ c e in
@@ -121,7 +120,7 @@ module _ (text : List ℕ) (at to : ℕ) (pool : List ℕ) (rises : at ≤ to) (
       (omega (arith, p.1), cc (range_split at to (length text) pool l, p.1))
 
   -- a range that begins with the text meets it
-  met-never : (rest : List ℕ) → Differs ≡ met text at to pool → range at to pool ≡ text ++ rest → ⊥
+  met-never : (rest : List ℕ) → None ≡ met text at to pool → range at to pool ≡ text ++ rest → ⊥
   unfolding met
   met-never rest e r =
       true-not-false (rw (r, take-append_seam) (same_self text)) (met-no _ _ e)
@@ -151,7 +150,7 @@ module _ {text : ℕ → List ℕ} {xs pool : List ℕ} {from to c i : ℕ} (m :
   unfolding joined
   meets_at h = sym (ap (λ (l : List ℕ). same (range c to pool) (joined text l)) h.is) ∙ m.is
 
-  pub meets-more : {s c' : ℕ} → Here xs i s → To c' ≡ met (text s) c to pool → Meets text xs pool from to c' (i + 1)
+  pub meets-more : {s c' : ℕ} → Here xs i s → Some c' ≡ met (text s) c to pool → Meets text xs pool from to c' (i + 1)
   meets-more {s} {c'} h e =
       let r = met-rest (text s) c to pool m.rises m.fits c' e in
       record {
@@ -164,7 +163,7 @@ module _ {text : ℕ → List ℕ} {xs pool : List ℕ} {from to c i : ℕ} (m :
             ∙ meets_at h;
       }
 
-  pub meets-stop : {s : ℕ} → Here xs i s → Differs ≡ met (text s) c to pool → false ≡ same (range from to pool) (joined text (drop 1 xs))
+  pub meets-stop : {s : ℕ} → Here xs i s → None ≡ met (text s) c to pool → false ≡ same (range from to pool) (joined text (drop 1 xs))
   meets-stop {s} h e =
       not_so _ (λ t. met-never (text s) c to pool m.rises m.fits _ e (same_true _ _ (meets_at h ∙ t)))
 

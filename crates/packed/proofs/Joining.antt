@@ -1,5 +1,6 @@
 -- Texts added one after another: after i symbols (the typecode left out) the pool has the texts of those before the i-th. The laws follow a
 -- loop: none yet, one more, no room, done.
+use Rattle.std.proofs.Common.{Some, None}
 use Prim.Native.Nat.{ℕ, zero, suc, ◌+◌, ◌≤◌, ◌<◌}
 use mathlib.Core.Path.{◌≡◌, refl, sym, ◌∙◌, ap}
 use mathlib.Core.Bool.{Bool, true, false}
@@ -10,24 +11,23 @@ use lib.Seq.{take_all, take-take}
 use Rattle.frames.specs.Logic.{below, pick}
 use Rattle.frames.proofs.Chains.{below-no, below_true, below_false}
 use Rattle.packed.specs.Pool.{written, grown, Adds, joined}
-use Rattle.packed.specs.declared.pool.Grown.TheVariants.{To, Full}
 use Rattle.packed.proofs.Written.{take-one-more, written_none, written-length, written-take, written-past, written-append}
 use Rattle.packed.proofs.Adding.{grown-full, grown-to}
 
 -- what the answer says
-pub grown-of-to : (size used limit n : ℕ) → To n ≡ grown size used limit → (n ≡ used + size) × (n ≤ limit)
+pub grown-of-to : (size used limit n : ℕ) → Some n ≡ grown size used limit → (n ≡ used + size) × (n ≤ limit)
 unfolding grown pick
 grown-of-to size used limit n e = tried (below limit (used + size)) refl e
   where
-    tried : (t : Bool) → below limit (used + size) ≡ t → To n ≡ pick t Full (To (used + size)) → (n ≡ used + size) × (n ≤ limit)
+    tried : (t : Bool) → below limit (used + size) ≡ t → Some n ≡ pick t None (Some (used + size)) → (n ≡ used + size) × (n ≤ limit)
     tried true b q = let z : ◌≡◌ {A = ℕ} 0 1 = cc in absurd (omega arith)
     tried false b q = let m : n ≡ used + size = cc in (m, omega (arith, below_false limit (used + size) b))
 
-pub grown-of-full : (size used limit : ℕ) → Full ≡ grown size used limit → limit < used + size
+pub grown-of-full : (size used limit : ℕ) → None ≡ grown size used limit → limit < used + size
 unfolding grown pick
 grown-of-full size used limit e = tried (below limit (used + size)) refl e
   where
-    tried : (t : Bool) → below limit (used + size) ≡ t → Full ≡ pick t Full (To (used + size)) → limit < used + size
+    tried : (t : Bool) → below limit (used + size) ≡ t → None ≡ pick t None (Some (used + size)) → limit < used + size
     tried true b q = below_true _ _ b
     tried false b q = let z : ◌≡◌ {A = ℕ} 0 1 = cc in absurd (omega arith)
 
@@ -116,7 +116,7 @@ module _ {text : ℕ → List ℕ} {xs : List ℕ} {used limit : ℕ} {pool : Li
       ∙ joined-append text (front xs i) (s ∷ [])
       ∙ ap (λ (r : List ℕ). joined text (front xs i) ++ r) (append-nil (text s))
 
-  pub joins-more : {bytes pool'' : List ℕ} {s n : ℕ} → i < length xs → s ≡ get_or xs i 0 → bytes ≡ text s → Adds bytes end limit pool' pool'' (To n)
+  pub joins-more : {bytes pool'' : List ℕ} {s n : ℕ} → i < length xs → s ≡ get_or xs i 0 → bytes ≡ text s → Adds bytes end limit pool' pool'' (Some n)
       → Joins text xs used limit pool (i + 1) n pool''
   joins-more {bytes} {pool''} {s} {n} l e b a =
       let said = grown-of-to (length bytes) end limit n a.answers in
@@ -137,7 +137,7 @@ module _ {text : ℕ → List ℕ} {xs : List ℕ} {used limit : ℕ} {pool : Li
         is = rw longer (stored ∙ (ap (λ (k : ℕ). written bytes k pool') ends ∙ ap (λ (p : List ℕ). written bytes (used + length (joined text (front xs i))) p) j.is ∙ once));
       }
 
-  pub joins-done : length xs ≤ i → Adds (joined text (drop 1 xs)) used limit pool pool' (To end)
+  pub joins-done : length xs ≤ i → Adds (joined text (drop 1 xs)) used limit pool pool' (Some end)
   joins-done l =
       let whole : joined text (front xs i) ≡ joined text (drop 1 xs) = ap (joined text) (front-all xs i l) in
       record {
@@ -148,8 +148,8 @@ module _ {text : ℕ → List ℕ} {xs : List ℕ} {used limit : ℕ} {pool : Li
         holds = λ b. rw whole at j.is;
       }
 
-  pub joins-full : {bytes pool'' : List ℕ} {s : ℕ} → i < length xs → s ≡ get_or xs i 0 → bytes ≡ text s → Adds bytes end limit pool' pool'' Full
-      → Adds (joined text (drop 1 xs)) used limit pool pool'' Full
+  pub joins-full : {bytes pool'' : List ℕ} {s : ℕ} → i < length xs → s ≡ get_or xs i 0 → bytes ≡ text s → Adds bytes end limit pool' pool'' None
+      → Adds (joined text (drop 1 xs)) used limit pool pool'' None
   unfolding joined
   joins-full {bytes} {pool''} {s} l e b a =
       let over = grown-of-full (length bytes) end limit a.answers in

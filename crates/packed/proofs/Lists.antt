@@ -19,10 +19,9 @@ use Rattle.facts.proofs.GoodFacts.{good-facts}
 use Rattle.facts.proofs.Decoded.{database-symbols, database-symbol, database-statements, database-statement}
 use Rattle.machine.specs.Ground.{is_variable, expression, expression_of}
 use Rattle.packed.specs.Packing.{ended, packed_symbol, packed}
-use Rattle.packed.specs.Pool.{range, is_var, spelled, image, piece, joined, Adds, Imaged}
+use Rattle.packed.specs.Pool.{range, is_var, spelled, image, piece, joined, Adds, Imaged, Grown}
 use Rattle.packed.specs.Lists.{Indexed, Defined, Located, Shows, Substitutes, Spells, Compares, ComparesRaw, Gathers}
 use Rattle.packed.specs.Images.{Gathered}
-use Rattle.packed.specs.declared.pool.Grown.{Grown}
 use Rattle.packed.proofs.Packs.{pack-substituted, pack-same}
 use Rattle.packed.proofs.Adding.{adds_same}
 use Rattle.packed.proofs.Numbering.{numbers-substituted}

@@ -8,9 +8,8 @@ use Rattle.frames.specs.Database.{Database, database, GoodFile}
 use Rattle.frames.specs.Facts.{◌∈◌, statement_of}
 use Rattle.machine.specs.Ground.{is_variable, expression_of}
 use Rattle.packed.specs.Packing.{packed}
-use Rattle.packed.specs.Pool.{range, image, Adds}
+use Rattle.packed.specs.Pool.{range, image, Adds, Grown}
 use Rattle.packed.specs.Images.{set_of, Numbers}
-use Rattle.packed.specs.declared.pool.Grown.{Grown}
 
 -- the file is good, and the front of the table has the offsets of its symbols
 pub record Indexed (f syms : List ℕ) : Type 0 where

@@ -1,12 +1,14 @@
 -- The pool: what writing into it leaves, and the texts that are read off the file, the pool and the table of images. A symbol is named by
 -- its number, which counts into the table of offsets `syms`.
-use Rattle.std.specs.Prelude.{ℕ, ◌+◌, ◌-◌, ◌≤◌, ◌≡◌, Bool, true, false, List, [], ◌∷◌, ◌++◌, length, get_or, take, drop}
+use Rattle.std.specs.Prelude.{ℕ, ◌+◌, ◌-◌, ◌≤◌, ◌≡◌, Bool, true, false, List, [], ◌∷◌, ◌++◌, length, get_or, take, drop, Option, Some, None}
 use Rattle.frames.specs.Logic.{below, equal, pick}
 use Rattle.frames.specs.Layout.{class_at, rest_at}
 use Rattle.frames.specs.Facts.{◌∈◌}
 use Rattle.packed.specs.Packing.{ended}
-use Rattle.packed.specs.declared.pool.Grown.{Grown}
-use Rattle.packed.specs.declared.pool.Grown.TheVariants.{To, Full}
+
+-- how far the pool is used then, or none where there is no room
+abbrev pub Grown : Type 0
+Grown = Option ℕ
 
 -- a buffer with these bytes at `at`, and else as it was
 unfoldable pub written : List ℕ → ℕ → List ℕ → List ℕ
@@ -18,10 +20,10 @@ range from to pool = take (to - from) (drop from pool)
 
 -- the answer when so many bytes are to follow `used` ones: full exactly when the limit would be passed
 unfoldable pub grown : ℕ → ℕ → ℕ → Grown
-grown size used limit = pick (below limit (used + size)) Full (To (used + size))
+grown size used limit = pick (below limit (used + size)) None (Some (used + size))
 
 -- bytes are added to the pool after the `used` ones. What was used stays as it was, and so does all past the limit; where the answer is not
--- `Full` the pool holds exactly these bytes more. (After `Full` the bytes from `used` up to the limit are of no meaning: no one reads them)
+-- `None` the pool holds exactly these bytes more. (After `None` the bytes from `used` up to the limit are of no meaning: no one reads them)
 pub record Adds (bytes : List ℕ) (used limit : ℕ) (pool pool' : List ℕ) (answer : Grown) : Type 0 where
   pub answers : answer ≡ grown (length bytes) used limit
   pub sized : length pool' ≡ length pool
@@ -31,7 +33,7 @@ pub record Adds (bytes : List ℕ) (used limit : ℕ) (pool pool' : List ℕ) (a
 
 -- where there is no room nothing was written. (This holds of one text; of several, those that found room may stand in the pool)
 pub record Untouched (pool pool' : List ℕ) (answer : Grown) : Type 0 where
-  pub left : answer ≡ Full → pool' ≡ pool
+  pub left : answer ≡ None → pool' ≡ pool
 
 -- symbol s is a variable
 unfoldable pub is_var : List ℕ → List ℕ → ℕ → Bool

@@ -14,13 +14,6 @@ use frames::read::u16_at;
 use frames::record::{symbol_count, symbols_from};
 use frames::refer::entry;
 
-// Where a text that was met in the pool ends, or that other bytes stand there.
-#[derive(Clone, Copy)]
-pub enum Met {
-    To(usize),
-    Differs,
-}
-
 // The i-th byte of a name whose last byte is marked.
 fn ended_byte(name: &[u8], i: usize) -> u8
     requires { i < length name.now }
@@ -75,34 +68,34 @@ fn matches_range(pool: &[u8], at: usize, from: usize, n: usize) -> bool
     true
 }
 
-// Meets a name in the bytes from `at` up to `to`.
-fn meet_name(pool: &[u8], at: usize, to: usize, name: &[u8]) -> Met
+// Meets a name in the bytes from `at` up to `to`: where it ends, or none where other bytes stand there.
+fn meet_name(pool: &[u8], at: usize, to: usize, name: &[u8]) -> Option<usize>
     requires { (at ≤ to) × (to ≤ length pool.now) }
     ensures { result ≡ met (ended name.now) at to pool.now }
 {
     let n = name.len();
     if to - at < n {
-        return Met::Differs;
+        return None;
     }
     if matches_name(pool, at, name) {
-        return Met::To(at + n);
+        return Some(at + n);
     }
-    Met::Differs
+    None
 }
 
 // Meets the bytes from `from` up to `end` in those from `at` up to `to`.
-fn meet_range(pool: &[u8], at: usize, to: usize, from: usize, end: usize) -> Met
+fn meet_range(pool: &[u8], at: usize, to: usize, from: usize, end: usize) -> Option<usize>
     requires { ((at ≤ to) × (to ≤ length pool.now)) × ((from ≤ end) × (end ≤ length pool.now)) }
     ensures { result ≡ met (range from end pool.now) at to pool.now }
 {
     let n = end - from;
     if to - at < n {
-        return Met::Differs;
+        return None;
     }
     if matches_range(pool, at, from, n) {
-        return Met::To(at + n);
+        return Some(at + n);
     }
-    Met::Differs
+    None
 }
 
 // Meets what stands for symbol s: the image of a variable, the name of a constant.
@@ -115,7 +108,7 @@ fn meet_piece(
     pool: &[u8],
     at: usize,
     to: usize,
-) -> Met
+) -> Option<usize>
     requires { ((at ≤ to) × (to ≤ length pool.now)) × Imaged file.now symbols.now froms.now tos.now (length pool.now) (s.0 ∷ []) }
     ensures { result ≡ met (piece file.now symbols.now froms.now tos.now pool.now s.0) at to pool.now }
 {
@@ -151,8 +144,8 @@ pub fn do_substitute_eq(
     while i < n {
         let s = SymbolNo(u16_at(file, base + 2 * i));
         match meet_piece(file, symbols, froms, tos, s, pool, c, to) {
-            Met::To(next) => c = next,
-            Met::Differs => return false,
+            Some(next) => c = next,
+            None => return false,
         }
         i += 1;
     }
@@ -173,8 +166,8 @@ pub fn raw_eq(file: &[u8], symbols: &[u32], at: u32, pool: &[u8], from: usize, t
         let s = SymbolNo(u16_at(file, base + 2 * j));
         let name = fields::name(file, entry(symbols, s.0));
         match meet_name(pool, d, to, name) {
-            Met::To(next) => d = next,
-            Met::Differs => return false,
+            Some(next) => d = next,
+            None => return false,
         }
         j += 1;
     }

@@ -4,13 +4,6 @@ ghost use Rattle.std.specs.Prelude.{◌≡◌, ◌+◌, ◌-◌, ◌≤◌, ◌<
 ghost use Rattle.packed.specs.Packing.{ended};
 ghost use Rattle.packed.specs.Pool.{written, range, Adds, Untouched};
 
-// How far the pool is used after bytes were added, or that there is no room for them.
-#[derive(Clone, Copy)]
-pub enum Grown {
-    To(usize),
-    Full,
-}
-
 // Puts a text into the pool at `at`.
 fn put_text(pool: &mut [u8], at: usize, text: &[u8])
     requires { at + length text.now ≤ length pool.old }
@@ -62,30 +55,30 @@ fn copy_within(pool: &mut [u8], from: usize, to: usize, at: usize)
     }
 }
 
-// Adds a name to the pool.
-pub fn add_name(pool: &mut [u8], used: usize, limit: usize, name: &[u8]) -> Grown
+// Adds a name to the pool: how far it is used then, or none where there is no room.
+pub fn add_name(pool: &mut [u8], used: usize, limit: usize, name: &[u8]) -> Option<usize>
     requires { (used ≤ limit) × (limit ≤ length pool.old) }
     ensures adds { Adds (ended name.now) used limit pool.old pool.new result }
     ensures full { Untouched pool.old pool.new result }
 {
     let n = name.len();
     if limit - used < n {
-        return Grown::Full;
+        return None;
     }
     put_name(pool, used, name);
-    Grown::To(used + n)
+    Some(used + n)
 }
 
-// Adds a copy of the bytes from `from` up to `to`, which are in use, to the pool.
-pub fn add_range(pool: &mut [u8], used: usize, limit: usize, from: usize, to: usize) -> Grown
+// Adds a copy of the bytes from `from` up to `to`, which are in use, to the pool: how far it is used then, or none where there is no room.
+pub fn add_range(pool: &mut [u8], used: usize, limit: usize, from: usize, to: usize) -> Option<usize>
     requires { ((from ≤ to) × (to ≤ used)) × ((used ≤ limit) × (limit ≤ length pool.old)) }
     ensures adds { Adds (range from to pool.old) used limit pool.old pool.new result }
     ensures full { Untouched pool.old pool.new result }
 {
     let size = to - from;
     if limit - used < size {
-        return Grown::Full;
+        return None;
     }
     copy_within(pool, from, to, used);
-    Grown::To(used + size)
+    Some(used + size)
 }

@@ -6,7 +6,7 @@ ghost use Rattle.frames.specs.Layout.{symbols_at};
 ghost use Rattle.packed.specs.Lists.{Substitutes, Spells};
 ghost use Rattle.packed.specs.Pool.{Adds, piece, spelled, joined, Imaged};
 
-use crate::pool::{Grown, add_name, add_range};
+use crate::pool::{add_name, add_range};
 use frames::fields;
 use frames::numbers::SymbolNo;
 use frames::read::u16_at;
@@ -21,7 +21,7 @@ fn add_symbol(
     pool: &mut [u8],
     used: usize,
     limit: usize,
-) -> Grown
+) -> Option<usize>
     requires { (used ≤ limit) × (limit ≤ length pool.old) }
     ensures { Adds (spelled file.now symbols.now s.0) used limit pool.old pool.new result }
 {
@@ -39,7 +39,7 @@ fn add_piece(
     pool: &mut [u8],
     used: usize,
     limit: usize,
-) -> Grown
+) -> Option<usize>
     requires used_le_limit { (used ≤ limit) × (limit ≤ length pool.old) }
     requires imaged { Imaged file.now symbols.now froms.now tos.now used (s.0 ∷ []) }
     ensures { Adds (piece file.now symbols.now froms.now tos.now pool.old s.0) used limit pool.old pool.new result }
@@ -63,7 +63,7 @@ pub fn do_substitute(
     pool: &mut [u8],
     used: usize,
     limit: usize,
-) -> Grown
+) -> Option<usize>
     requires used_le_limit { (used ≤ limit) × (limit ≤ length pool.old) }
     requires imaged { Imaged file.now symbols.now froms.now tos.now used (drop 1 (symbols_at file.now at)) }
     ensures bytes { Adds (joined (piece file.now symbols.now froms.now tos.now pool.old) (drop 1 (symbols_at file.now at))) used limit pool.old pool.new result }
@@ -75,17 +75,10 @@ pub fn do_substitute(
     let mut i = 1;
     while i < n {
         let s = SymbolNo(u16_at(file, base + 2 * i));
-        match add_piece(file, symbols, froms, tos, s, pool, end, limit) {
-            Grown::To(e) => {
-                end = e;
-            }
-            Grown::Full => {
-                return Grown::Full;
-            }
-        }
+        end = add_piece(file, symbols, froms, tos, s, pool, end, limit)?;
         i += 1;
     }
-    Grown::To(end)
+    Some(end)
 }
 
 // Adds the symbols of the statement at `at`, its typecode left out, by their own names.
@@ -96,7 +89,7 @@ pub fn do_substitute_raw(
     pool: &mut [u8],
     used: usize,
     limit: usize,
-) -> Grown
+) -> Option<usize>
     requires { (used ≤ limit) × (limit ≤ length pool.old) }
     ensures bytes { Adds (joined (spelled file.now symbols.now) (drop 1 (symbols_at file.now at))) used limit pool.old pool.new result }
     ensures lists { Spells file.now symbols.now at used limit pool.old pool.new result }
@@ -107,15 +100,8 @@ pub fn do_substitute_raw(
     let mut i = 1;
     while i < n {
         let s = SymbolNo(u16_at(file, base + 2 * i));
-        match add_symbol(file, symbols, s, pool, end, limit) {
-            Grown::To(e) => {
-                end = e;
-            }
-            Grown::Full => {
-                return Grown::Full;
-            }
-        }
+        end = add_symbol(file, symbols, s, pool, end, limit)?;
         i += 1;
     }
-    Grown::To(end)
+    Some(end)
 }

@@ -7,8 +7,7 @@ use lib.ListN.{length}
 use Rattle.frames.specs.Logic.{both, same}
 use Rattle.frames.proofs.Chains.{pick_first, pick_second, at_most-yes, at_most-no}
 use Rattle.frames.proofs.Tells.{true-not-false}
-use Rattle.packed.specs.Pool.{range, grown, Adds, Untouched}
-use Rattle.packed.specs.declared.pool.Grown.{Grown}
+use Rattle.packed.specs.Pool.{range, grown, Adds, Untouched, Grown}
 use Rattle.packed.proofs.Adding.{adds_same}
 use Rattle.packed_calls.specs.Answers.{refused, number_of, truth_of, roomed, lies, compared, Answered, Says, Copies}
 

@@ -1,13 +1,11 @@
 -- What the calls answer: a number, and what they leave in the pool. Where the ranges that were handed over are wrong a call is refused, and
 -- the pool stays as it was.
-use Rattle.std.specs.Prelude.{ℕ, ◌≡◌, Bool, true, false, List, length, get_or, drop}
+use Rattle.std.specs.Prelude.{ℕ, ◌≡◌, Bool, true, false, List, length, get_or, drop, Some, None}
 use Rattle.frames.specs.Logic.{at_most, pick, either, both, no, all, same}
 use Rattle.frames.specs.Layout.{symbols_at}
 use Rattle.frames.specs.Database.{Database}
 use Rattle.packed.specs.Packing.{packed}
-use Rattle.packed.specs.Pool.{range, grown, is_var, spelled, piece, joined, Adds, Untouched}
-use Rattle.packed.specs.declared.pool.Grown.{Grown}
-use Rattle.packed.specs.declared.pool.Grown.TheVariants.{To, Full}
+use Rattle.packed.specs.Pool.{range, grown, is_var, spelled, piece, joined, Adds, Untouched, Grown}
 
 -- the number that says that the ranges are wrong: `REFUSED`
 abbrev pub refused : ℕ
@@ -15,8 +13,8 @@ refused = 18446744073709551614
 
 -- the number of an answer: how far the pool is used, or `FULL`
 unfoldable pub number_of : Grown → ℕ
-number_of (To end) = end
-number_of Full = 18446744073709551615
+number_of (Some end) = end
+number_of None = 18446744073709551615
 
 -- the number of a truth value
 unfoldable pub truth_of : Bool → ℕ

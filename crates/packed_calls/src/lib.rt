@@ -14,7 +14,6 @@ use frames::numbers::SymbolNo;
 use frames::read::u16_at;
 use frames::record::{symbol_count, symbols_from};
 use frames::refer::entry;
-use packed::pool::Grown;
 use packed::{compare, pool, substitute};
 
 // There is no room.
@@ -66,13 +65,10 @@ fn imaged(file: &[u8], symbols: &[u32], at: u32, froms: &[u32], tos: &[u32], use
 }
 
 // The number of an answer.
-fn number(grown: Grown) -> usize
+fn number(grown: Option<usize>) -> usize
     ensures { result ≡ number_of grown }
 {
-    match grown {
-        Grown::To(end) => end,
-        Grown::Full => FULL,
-    }
+    grown.unwrap_or(FULL)
 }
 
 // The number of a truth value.

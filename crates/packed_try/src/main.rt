@@ -9,7 +9,7 @@ use bitset::{Bitset, BitsetIter, Member};
 use frames::numbers::SymbolNo;
 use frames::record::is_assertion;
 use frames::refer::entry;
-use frames::{Verdict, fields};
+use frames::fields;
 use packed::images;
 use std::num::{wrapping_add_usize, wrapping_sub_usize};
 
@@ -438,11 +438,8 @@ fn try_file(file: &[u8]) {
     let mut symbols = [0u32; 4096];
     let mut statements = [0u32; 4096];
     match filecheck::check(file, &mut symbols, &mut statements) {
-        Verdict::Good {
-            symbols: _,
-            statements: count,
-        } => try_good(file, &symbols, &statements, count),
-        Verdict::Refused { why: _, place: _ } => {
+        Ok(sizes) => try_good(file, &symbols, &statements, sizes.statements),
+        Err(_) => {
             io::write_all(STDOUT_FILENO, b"refused\n");
         }
     }

@@ -1,4 +1,5 @@
 -- The walk over a file goes forward: what is read later lies further on, and what was read stays.
+use Rattle.std.proofs.Common.{Some, None}
 use Prim.Native.Nat.{ℕ, suc, ◌≤◌, ◌<◌}
 use mathlib.Core.Path.{◌≡◌, refl, sym, ap, ◌∙◌}
 use mathlib.Core.Bool.{Bool, true, false}
@@ -8,10 +9,7 @@ use lib.ListN.{length, get_or, length-append, get_or-append}
 use lib.Seq.{get_or-append_seam}
 use Rattle.frames.specs.Logic.{below, pick}
 use Rattle.frames.specs.Layout.{kind_at, next_at, is_statement}
-use Rattle.frames.specs.Verdict.{Index, Outcome, after, refusal, at_end, decided, fault_at, walk}
-use Rattle.frames.specs.declared.Fault.{Fault}
-use Rattle.frames.specs.declared.Fault.TheVariants.{Fine, Is}
-use Rattle.frames.specs.declared.Verdict.TheVariants.{Good}
+use Rattle.frames.specs.Verdict.{Index, Outcome, after, refusal, at_end, decided, fault_at, walk, Fault, Good}
 use Rattle.frames.proofs.Chains.{at_most-no, below_true, below_false}
 use Rattle.frames.proofs.Fine.{Faultless, fault-fine}
 use Rattle.facts.proofs.Kept.{walk_is, refused-not-good}
@@ -83,5 +81,5 @@ module _ (f : List ℕ) where
       tried : (v : Fault) → fault_at f ix.symbols ix.statements ix.owed o ≡ v
           → decided (fault_at f ix.symbols ix.statements ix.owed o) o ix (walk k f (after f ix o) (next_at f o)) ≡ w
           → Faultless f ix.symbols ix.statements ix.owed o × (walk k f (after f ix o) (next_at f o) ≡ w)
-      tried Fine c d = (fault-fine f ix.symbols ix.statements ix.owed o c, rw c at d)
-      tried (Is why) c d = absurd (refused-not-good (sym (ap (λ (r : Outcome). r.verdict) (rw c at d))) good)
+      tried None c d = (fault-fine f ix.symbols ix.statements ix.owed o c, rw c at d)
+      tried (Some why) c d = absurd (refused-not-good (sym (ap (λ (r : Outcome). r.verdict) (rw c at d))) good)

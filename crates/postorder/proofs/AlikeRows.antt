@@ -1,4 +1,5 @@
 -- Where a record and all records before it are alike, the rows of the table say the same of it.
+use Rattle.std.proofs.Common.{None}
 use Prim.Native.Nat.{ℕ, zero, suc, ◌<◌}
 use mathlib.Core.Path.{◌≡◌, refl, sym, ap, ◌∙◌}
 use mathlib.Core.Bool.{Bool, true, false}
@@ -9,7 +10,6 @@ use Rattle.frames.specs.Logic.{below, equal, pick, both, all, any}
 use Rattle.frames.specs.Layout.{kind_at, next_at, supposes, class_at, rest_at, hyps_at, pairs_at, symbols_at, typecode_at, variable_at}
 use Rattle.frames.specs.Table.{cut_short, off_layout, bad_record, too_many, named, used, bad_symbol, bad_label, class_of, constant, variable, active, defined, variables, bad_numbers, bad_reference, float_of, float_below, has_float, symbol_given, all_given, lacks_float, second_float, bad_assertion, bad_frame, no_proof}
 use Rattle.frames.specs.Verdict.{fault_at}
-use Rattle.frames.specs.declared.Fault.TheVariants.{Fine}
 use Rattle.frames.proofs.Chains.{below-no, below_true, below_false, one_later, one_last, unless-skip, equal-true}
 use Rattle.frames.proofs.Loops.{get_or_past}
 use Rattle.frames.proofs.Fine.{Faultless}
@@ -208,7 +208,7 @@ module _ (f g : List ℕ) (zero-alike : Alike f 0 g 0) {syms syms' stmts stmts' 
     proof-same owed = cc (kind-alike a)
 
     -- so a record that is alike has no fault either
-    pub fine-alike : (owed : Bool) → Faultless f syms stmts owed o → fault_at g syms' stmts' owed o' ≡ Fine
+    pub fine-alike : (owed : Bool) → Faultless f syms stmts owed o → fault_at g syms' stmts' owed o' ≡ None
     unfolding fault_at
     fine-alike owed n =
         sym (unless-skip _ (record-alike a)

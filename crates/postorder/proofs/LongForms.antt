@@ -11,9 +11,7 @@ use Rattle.book.specs.Book.{Tree}
 use Rattle.frames.specs.Logic.{below, equal, pick}
 use Rattle.frames.specs.Database.{Database, database, GoodFile}
 use Rattle.frames.specs.Facts.{statement_of}
-use Rattle.frames.specs.Verdict.{verdict}
-use Rattle.frames.specs.declared.Verdict.{Verdict}
-use Rattle.frames.specs.declared.Verdict.TheVariants.{Good, Refused}
+use Rattle.frames.specs.Verdict.{verdict, Verdict, Good, Refused}
 use Rattle.frames.proofs.Chains.{equal-yes, equal-true, at_most-true}
 use Rattle.facts.proofs.GoodFacts.{good-facts}
 use Rattle.facts.proofs.Unique.{good-answer}

@@ -1,4 +1,5 @@
 -- The walk over a file with another proof record: it reads the same records, those before the proof in their places, those after it moved.
+use Rattle.std.proofs.Common.{None}
 use Prim.Native.Nat.{ℕ, zero, suc, ◌+◌, ◌-◌, ◌≤◌, ◌<◌}
 use mathlib.Core.Path.{◌≡◌, refl, sym, ap, ◌∙◌}
 use mathlib.Core.Bool.{Bool, true, false}
@@ -9,9 +10,7 @@ use lib.ListN.{length, get_or, length-append}
 use lib.Seq.{get_or-append_seam}
 use Rattle.frames.specs.Logic.{below, equal, pick, either}
 use Rattle.frames.specs.Layout.{length_at, kind_at, next_at, asserts, supposes, is_statement}
-use Rattle.frames.specs.Verdict.{Index, Outcome, after, at_end, end_verdict, decided, fault_at, walk}
-use Rattle.frames.specs.declared.Fault.TheVariants.{Fine}
-use Rattle.frames.specs.declared.Verdict.TheVariants.{Good}
+use Rattle.frames.specs.Verdict.{Index, Outcome, after, at_end, end_verdict, decided, fault_at, walk, Good}
 use Rattle.frames.proofs.Chains.{at_most-no, at_most-yes, below_true, below_false, equal-yes, equal-true}
 use Rattle.frames.proofs.Fine.{Faultless, record-well-formed}
 use Rattle.facts.proofs.Kept.{refused-not-good}
@@ -99,7 +98,7 @@ unfolding next_at
 next-later f o = omega arith
 
 -- one step of a walk over a record without a fault, and its end
-walk-goes : (k : ℕ) (f : List ℕ) (ix : Index) (o : ℕ) → o < length f → fault_at f ix.symbols ix.statements ix.owed o ≡ Fine
+walk-goes : (k : ℕ) (f : List ℕ) (ix : Index) (o : ℕ) → o < length f → fault_at f ix.symbols ix.statements ix.owed o ≡ None
     → walk (suc k) f ix o ≡ walk k f (after f ix o) (next_at f o)
 unfolding walk pick decided
 walk-goes k f ix o l e = rw (at_most-no l, e)
@@ -182,7 +181,7 @@ module _ (f : List ℕ) (w : Outcome) (a b p at q r : ℕ) (good : w.verdict ≡
 
   -- the record that is read in both files
   record Step (ix ix' : Index) (o o' : ℕ) : Type 0 where
-    fine : fault_at (replacing f q r text) ix'.symbols ix'.statements ix'.owed o' ≡ Fine
+    fine : fault_at (replacing f q r text) ix'.symbols ix'.statements ix'.owed o' ≡ None
     goes : Where (after f ix o) (next_at f o) (next_at (replacing f q r text) o')
     moved : IndexMoved f (replacing f q r text) q (next_at f o) (next_at (replacing f q r text) o') (after f ix o) (after (replacing f q r text) ix' o')
     forward : o' < next_at (replacing f q r text) o'

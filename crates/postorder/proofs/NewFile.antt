@@ -9,8 +9,7 @@ use native.Mathlib.Numerals.{add-one}
 use lib.ListN.{length, get_or}
 use Rattle.frames.specs.Logic.{below, equal, pick}
 use Rattle.frames.specs.Layout.{kind_at, next_at, supposes, rest_at}
-use Rattle.frames.specs.Verdict.{nothing, walk, outcome, verdict, index}
-use Rattle.frames.specs.declared.Verdict.TheVariants.{Good}
+use Rattle.frames.specs.Verdict.{nothing, walk, outcome, verdict, index, Good}
 use Rattle.frames.specs.Database.{Statement, Database, symbol_at, statement_at, database, GoodFile}
 use Rattle.frames.specs.Facts.{symbol_of, statement_of, FileFacts}
 use Rattle.frames.proofs.Chains.{below-no, below_true, below_false, equal-true}

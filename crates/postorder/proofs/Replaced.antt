@@ -1,4 +1,5 @@
 -- A file with another proof record: what stands before it stays in its place, what stands after it is moved, and the new record has no fault.
+use Rattle.std.proofs.Common.{None}
 use Prim.Native.Nat.{ℕ, ◌+◌, ◌-◌, ◌*◌, ◌/◌, ◌%◌, ◌≤◌, ◌<◌}
 use mathlib.Core.Path.{◌≡◌, refl, sym, ap, ◌∙◌}
 use mathlib.Core.Bool.{Bool, true, false}
@@ -11,7 +12,6 @@ use Rattle.frames.specs.Logic.{below, equal, pick, either, both, no}
 use Rattle.frames.specs.Layout.{byte, u16, u32, length_at, kind_at, next_at, fixed_size, asserts, supposes, lists_symbols, is_statement, hyp_count, pair_count, listed_count, lists_from, pairs_from, listed_from, rest_from, rest_size, rest_at}
 use Rattle.frames.specs.Table.{unknown_kind, bad_rest, no_symbols, cut_short, off_layout, bad_record, too_many, bad_symbol, bad_label, bad_reference, bad_frame, no_proof}
 use Rattle.frames.specs.Verdict.{fault_at}
-use Rattle.frames.specs.declared.Fault.TheVariants.{Fine}
 use Rattle.frames.proofs.Chains.{below-no, one_later, one_last, unless-skip}
 use Rattle.frames.proofs.Fine.{WellFormed}
 use Rattle.machine.specs.Files.{two, four, record_of, proof}
@@ -177,7 +177,7 @@ module _ (f : List ℕ) (q r : ℕ) (text : List ℕ) (order : q ≤ r) (fits : 
     unfolding bad_symbol bad_label bad_reference bad_frame no_proof is_statement supposes asserts equal either both no pick
     others-fine = (rw new-kind, rw new-kind, rw new-kind, rw new-kind, rw new-kind)
 
-    pub new-fine : fault_at (replacing f q r text) syms stmts true q ≡ Fine
+    pub new-fine : fault_at (replacing f q r text) syms stmts true q ≡ None
     unfolding fault_at
     new-fine =
         let o = others-fine in

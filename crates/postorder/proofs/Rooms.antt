@@ -10,9 +10,7 @@ use Rattle.book.specs.Book.{Substitution, Tree}
 use Rattle.frames.specs.Logic.{equal, pick}
 use Rattle.frames.specs.Database.{Database, database}
 use Rattle.frames.specs.Facts.{statement_of}
-use Rattle.frames.specs.Verdict.{verdict}
-use Rattle.frames.specs.declared.Verdict.{Verdict}
-use Rattle.frames.specs.declared.Verdict.TheVariants.{Good, Refused}
+use Rattle.frames.specs.Verdict.{verdict, Verdict, Good, Refused}
 use Rattle.machine.specs.declared.Refusal.{Refusal}
 use Rattle.machine.specs.Chain.{Result, fine, stop, unless, bind}
 use Rattle.machine.specs.Answer.{Answer, accepted, refused, not_provable}

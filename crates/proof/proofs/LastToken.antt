@@ -1,4 +1,5 @@
 -- The last token, and then the findings.
+use Rattle.std.proofs.Common.{Err}
 use Prim.Native.Nat.{ℕ, ◌-◌, ◌<◌}
 use mathlib.Core.Path.{◌≡◌, refl, sym, ◌∙◌, ap}
 use mathlib.Core.List.{List, []}
@@ -17,16 +18,14 @@ use Rattle.resolve.proofs.Filing.{filed-located}
 use Rattle.memory.specs.declared.Counts.{Counts}
 use Rattle.memory.specs.Shown.{room_of, Shown}
 use Rattle.run.specs.declared.Mode.{Mode}
-use Rattle.run.specs.declared.Read.{Read}
-use Rattle.run.specs.declared.Read.TheVariants as read
+use Rattle.run.specs.Read.{Read, Go, Stop}
 use Rattle.run_bytes.specs.declared.State.{State}
 use Rattle.run.specs.Running.{Env, Tables, Running, bench_of, lent_of}
 use Rattle.run.specs.Reads.{mode_of, Reads, goes, stops}
 use Rattle.run_tokens.specs.Tokens.{ReadsToken}
 use Rattle.run_bytes.specs.Bytes.{Stands}
 use Rattle.run_bytes.proofs.Byting.{range_none, end-token}
-use Rattle.findings.specs.declared.Answer.{Answer}
-use Rattle.findings.specs.declared.Answer.TheVariants.{Refused}
+use Rattle.findings.specs.Answers.{Answer}
 use Rattle.findings.specs.Tells.{refuses, Closes}
 use Rattle.findings.proofs.Finishing.{tells-same}
 use Rattle.proof.specs.Whole.{EndsText}
@@ -43,11 +42,11 @@ unfolding machine.on_end
 on-end db p room d = refl
 
 -- what a token's reading tells
-read-go : {e : Env} {t : Tables} {place : ℕ} {next : machine.Mode → Memory → machine.State} {state : machine.State} {mode : Mode} {c : Counts} {steps : ℕ} → Reads e t place next state (read.Go mode c steps)
+read-go : {e : Env} {t : Tables} {place : ℕ} {next : machine.Mode → Memory → machine.State} {state : machine.State} {mode : Mode} {c : Counts} {steps : ℕ} → Reads e t place next state (Go mode c steps)
     → (m : Memory) × (state ≡ next (mode_of mode) m) × Shown (bench_of e) (lent_of t) c m × (m.steps ≡ steps)
 read-go (goes {m = m} s n) = (m, refl, s, n)
 
-read-stop : {e : Env} {t : Tables} {place : ℕ} {next : machine.Mode → Memory → machine.State} {state : machine.State} {why : Refusal} {steps : ℕ} → Reads e t place next state (read.Stop why steps)
+read-stop : {e : Env} {t : Tables} {place : ℕ} {next : machine.Mode → Memory → machine.State} {state : machine.State} {why : Refusal} {steps : ℕ} → Reads e t place next state (Stop why steps)
     → state ≡ machine.over (refused why place steps)
 read-stop stops = refl
 
@@ -89,7 +88,7 @@ module _ {e : Env} {t : Tables} {s : State} (r : Running e t s.counts) {at : ℕ
         (reads.follows d.memory (machine.finish (database e.file) e.asked (length e.text)) st.steps st.shown)
 
     pub ends-go : {t' : Tables} {mode : Mode} {c : Counts} {steps : ℕ} {answer : Answer}
-        → ReadsToken e t t' s.counts s.mode s.token (length e.text) s.steps (read.Go mode c steps)
+        → ReadsToken e t t' s.counts s.mode s.token (length e.text) s.steps (Go mode c steps)
         → Closes e.file e.symbols at t'.stack t'.pool c mode (length e.text) steps answer → EndsText e t t'.tree s answer
     ends-go {t'} reads closes =
         record {
@@ -98,6 +97,6 @@ module _ {e : Env} {t : Tables} {s : State} (r : Running e t s.counts) {at : ℕ
               tells-same w.1 (closes.tells e t' w.0 refl refl refl r.checked.filed (there r.checked.filed r.checked.asked at-is) w.3 w.2);
         }
 
-    pub ends-stop : {t' : Tables} {why : Refusal} {steps : ℕ} → ReadsToken e t t' s.counts s.mode s.token (length e.text) s.steps (read.Stop why steps)
-        → EndsText e t t'.tree s (Refused (record { why = why; place = s.token; steps = steps }))
+    pub ends-stop : {t' : Tables} {why : Refusal} {steps : ℕ} → ReadsToken e t t' s.counts s.mode s.token (length e.text) s.steps (Stop why steps)
+        → EndsText e t t'.tree s (Err (record { why = why; place = s.token; steps = steps }))
     ends-stop reads = record { tells = λ d st. tells-same (read-stop (judged reads d st)) refuses }

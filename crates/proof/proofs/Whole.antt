@@ -1,4 +1,5 @@
 -- The whole proof: the start, the text, its end.
+use Rattle.std.proofs.Common.{Ok, Err}
 use Prim.Native.Nat.{ℕ, ◌<◌}
 use mathlib.Core.Path.{◌≡◌, refl, sym, ◌∙◌, ap}
 use mathlib.Core.List.{List, []}
@@ -17,7 +18,6 @@ use Rattle.machine.proofs.Stepped.{StepsAre, steps-out}
 use Rattle.packed.specs.Pool.{range}
 use Rattle.resolve.proofs.Filing.{located-statement}
 use Rattle.memory.specs.declared.Counts.{Counts}
-use Rattle.memory.specs.declared.Outcome.TheVariants as outcome
 use Rattle.memory.specs.Shown.{room_of, Shown}
 use Rattle.memory.proofs.Ending.{ends-go, ends-refused}
 use Rattle.apply.proofs.OneHyp.{ranged-more}
@@ -27,13 +27,11 @@ use Rattle.begin.proofs.Firsts.{members-first, members-below}
 use Rattle.run.specs.declared.Mode.TheVariants.{Beginning}
 use Rattle.run_bytes.specs.declared.State.{State}
 use Rattle.run_bytes.specs.declared.Stopped.{Stopped}
-use Rattle.run_bytes.specs.declared.Next.TheVariants.{Going, Over}
 use Rattle.run.specs.Running.{Env, env, Tables, tables, Running, bench_of, lent_of}
 use Rattle.run_bytes.specs.Bytes.{Stands, ReadsText}
 use Rattle.run_bytes.proofs.Looping.{over-bytes, alike-over, alike-going}
 use Rattle.run.specs.Reads.{mode_of}
-use Rattle.findings.specs.declared.Answer.TheVariants.{Refused}
-use Rattle.findings.specs.declared.Answer as answer
+use Rattle.findings.specs.Answers.{Answer as TheAnswer}
 use Rattle.findings.specs.Tells.{Tells, refuses}
 use Rattle.findings.proofs.Finishing.{tells-same}
 use Rattle.proof.specs.Whole.{EndsText, RunsText, Blank}
@@ -62,7 +60,7 @@ with_numbers t numbers = tables t.seats t.froms t.tos t.sets numbers t.pool t.st
 
 module _ {e : Env} {t t' : Tables} {c : Counts} where
   -- the run is over before the end
-  pub text-over : {x : Stopped} → ReadsText e t t' (record { mode = Beginning; token = 0; steps = 0; counts = c }) (Over x) → RunsText e t t'.tree c (Refused x)
+  pub text-over : {x : Stopped} → ReadsText e t t' (record { mode = Beginning; token = 0; steps = 0; counts = c }) (Err x) → RunsText e t t'.tree c (Err x)
   text-over {x} reads =
       record {
         tells = λ m n s.
@@ -71,7 +69,7 @@ module _ {e : Env} {t t' : Tables} {c : Counts} where
       }
 
   -- it comes to the end
-  pub text-going : {s : State} {tree : List ℕ} {r : answer.Answer} → ReadsText e t t' (record { mode = Beginning; token = 0; steps = 0; counts = c }) (Going s) → EndsText e t' tree s r → RunsText e t tree c r
+  pub text-going : {s : State} {tree : List ℕ} {r : TheAnswer} → ReadsText e t t' (record { mode = Beginning; token = 0; steps = 0; counts = c }) (Ok s) → EndsText e t' tree s r → RunsText e t tree c r
   text-going reads ends =
       record {
         tells = λ m n s.
@@ -96,13 +94,13 @@ unfolding machine.run machine.start machine.settle
 start-go db p room text m e = rw e refl
 
 module _ {e : Env} {t : Tables} (b : Blank e t) {at : ℕ} (at-is : at ≡ get_or e.statements e.asked 0) where
-  pub verify-refused : {numbers' : List ℕ} {why : Refusal} → Begins e.file e.statements at e.text t.numbers numbers' (outcome.Refused why)
-      → Tells e.file t.tree (machine.run (database e.file) e.asked (room_of e.limits) e.text) (Refused (record { why = why; place = 0; steps = 0 }))
+  pub verify-refused : {numbers' : List ℕ} {why : Refusal} → Begins e.file e.statements at e.text t.numbers numbers' (Err why)
+      → Tells e.file t.tree (machine.run (database e.file) e.asked (room_of e.limits) e.text) (Err (record { why = why; place = 0; steps = 0 }))
   verify-refused {numbers'} {why} begins =
       let stopped = ends-refused (begins.follows e.symbols e.asked e.limits t.pool t.stack t.places t.locals t.tree b.filed (there b.filed b.asked at-is) b.numbers b.roomy) in
       tells-same (start-stop (database e.file) e.asked (room_of e.limits) e.text why stopped) refuses
 
-  module _ {numbers' : List ℕ} {c : Counts} (begins : Begins e.file e.statements at e.text t.numbers numbers' (outcome.Go c)) where
+  module _ {numbers' : List ℕ} {c : Counts} (begins : Begins e.file e.statements at e.text t.numbers numbers' (Ok c)) where
     begun : (m : Memory) × (machine.admitted (database e.file) e.asked e.text ≡ fine m) × Shown (bench_of e) (lent_of (with_numbers t numbers')) c m
     begun = ends-go (begins.follows e.symbols e.asked e.limits t.pool t.stack t.places t.locals t.tree b.filed (there b.filed b.asked at-is) b.numbers b.roomy)
 
@@ -140,7 +138,7 @@ module _ {e : Env} {t : Tables} (b : Blank e t) {at : ℕ} (at-is : at ≡ get_o
           shown = w.2;
         }
 
-    pub verify-text : {table' tree' : List ℕ} {r : answer.Answer} → RunsText (with_table e table') (with_numbers t numbers') tree' c r → Tells e.file tree' (machine.run (database e.file) e.asked (room_of e.limits) e.text) r
+    pub verify-text : {table' tree' : List ℕ} {r : TheAnswer} → RunsText (with_table e table') (with_numbers t numbers') tree' c r → Tells e.file tree' (machine.run (database e.file) e.asked (room_of e.limits) e.text) r
     verify-text runs =
         let w = begun in
         tells-same (start-go (database e.file) e.asked (room_of e.limits) e.text w.0 w.1) (runs.tells w.0 (steps-out (admitted-steps _ _ _) w.1) w.2)

@@ -11,7 +11,7 @@ use Rattle.disjoint.specs.Disjoint.{Cleared}
 use Rattle.run_bytes.specs.declared.State.{State}
 use Rattle.run.specs.Running.{Env, Tables, Sized, width_of, bench_of, lent_of}
 use Rattle.run_bytes.specs.Bytes.{Stands}
-use Rattle.findings.specs.declared.Answer.{Answer}
+use Rattle.findings.specs.Answers.{Answer}
 use Rattle.findings.specs.Tells.{Tells}
 
 -- the end of the text, where the last token may still be open; `tree` are the tree entries after it

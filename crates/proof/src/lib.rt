@@ -17,9 +17,9 @@ use disjoint::table::fill;
 use findings::{Answer, finish};
 use frames::fields;
 use frames::numbers::StatementNo;
-use memory::{Counts, Limits, Outcome};
-use run::{Mode, Read};
-use run_bytes::{Next, State, Stopped, read_text};
+use memory::{Counts, Limits};
+use run::Mode;
+use run_bytes::{State, Stopped, read_text};
 use run_tokens::on_token;
 
 // The end of the text: the last token is whole, then the findings.
@@ -79,28 +79,24 @@ fn end_text(
             limits,
             s.steps,
         ) {
-            Read::Go {
-                mode,
-                counts,
-                steps,
-            } => {
+            Ok(going) => {
                 return finish(
                     file,
                     symbols,
                     at,
                     stack,
                     pool,
-                    counts,
-                    mode,
+                    going.counts,
+                    going.mode,
                     text.len(),
-                    steps,
+                    going.steps,
                 );
             }
-            Read::Stop { why, steps } => {
-                return Answer::Refused(Stopped {
-                    why: why,
+            Err(halted) => {
+                return Err(Stopped {
+                    why: halted.why,
                     place: from,
-                    steps: steps,
+                    steps: halted.steps,
                 });
             }
         }
@@ -140,16 +136,14 @@ fn run_text(
         steps: 0,
         counts: c,
     };
-    match read_text(
+    let s = read_text(
         file, symbols, statements, labels, p, text, table, seats, froms, tos, sets, numbers, pool,
         stack, places, locals, tree, limits, start,
-    ) {
-        Next::Over(x) => Answer::Refused(x),
-        Next::Going(s) => end_text(
-            file, symbols, statements, labels, p, text, table, seats, froms, tos, sets, numbers,
-            pool, stack, places, locals, tree, limits, s,
-        ),
-    }
+    )?;
+    end_text(
+        file, symbols, statements, labels, p, text, table, seats, froms, tos, sets, numbers, pool,
+        stack, places, locals, tree, limits, s,
+    )
 }
 
 // The proof of statement p: 20, 44, then its text.
@@ -179,12 +173,12 @@ pub fn verify_proof(
 {
     let at = fields::statement_offset(statements, p);
     match begin(file, statements, at, text, numbers) {
-        Outcome::Refused(why) => Answer::Refused(Stopped {
+        Err(why) => Err(Stopped {
             why: why,
             place: 0,
             steps: 0,
         }),
-        Outcome::Go(c) => {
+        Ok(c) => {
             fill(file, at, numbers, table);
             run_text(
                 file, symbols, statements, labels, p, text, table, seats, froms, tos, sets,

@@ -9,11 +9,9 @@ use lib.Dec.{ltb}
 use lib.ListN.{length, length-append, get_or-eq_default}
 use Rattle.bitset.specs.Sets.{keep}
 use Rattle.frames.specs.Logic.{equal, below, pick}
-use Rattle.frames.specs.Verdict.{verdict, number_of}
+use Rattle.frames.specs.Verdict.{verdict, number_of, Verdict, Good, Refused}
 use Rattle.frames.specs.Database.{Statement, Database, database, GoodFile}
 use Rattle.frames.specs.Facts.{statement_of}
-use Rattle.frames.specs.declared.Verdict.{Verdict}
-use Rattle.frames.specs.declared.Verdict.TheVariants.{Good, Refused}
 use Rattle.frames.proofs.Chains.{below_true, below_false}
 use Rattle.facts.proofs.GoodFacts.{good-facts}
 use Rattle.facts.proofs.Unique.{good-answer}

@@ -9,8 +9,7 @@ use Rattle.bitset.specs.Sets.{keep}
 use Rattle.frames.specs.Logic.{equal}
 use Rattle.frames.specs.Database.{database}
 use Rattle.frames.specs.Facts.{statement_of}
-use Rattle.packed.specs.Pool.{Adds, joined}
-use Rattle.packed.specs.declared.pool.Grown.{Grown}
+use Rattle.packed.specs.Pool.{Adds, joined, Grown}
 use Rattle.packed.proofs.Adding.{adds_same}
 use Rattle.packed.proofs.Joining.{joined-append}
 use Rattle.lines.specs.Lines.{checked_line}

@@ -1,4 +1,5 @@
 -- The whole reply: the answers that the walk laid, the verdict, and that the buffer always has room.
+use Rattle.std.proofs.Common.{Some, None, Ok}
 use Prim.Native.Nat.{ℕ, ◌+◌, ◌≤◌, ◌<◌}
 use mathlib.Core.Path.{◌≡◌, refl, sym, ◌∙◌, ap}
 use mathlib.Core.List.{List}
@@ -6,16 +7,12 @@ use native.Mathlib.Omega.{arith}
 use lib.ListN.{length, get_or, take, drop, length-take}
 use lib.Seq.{take-append_seam, length-take-le}
 use Rattle.io.specs.Counts.{IsPrefixLen}
-use Rattle.frames.specs.Verdict.{verdict, laid, Checked, number_of}
+use Rattle.frames.specs.Verdict.{verdict, laid, Checked, number_of, Verdict, Refused, Good}
 use Rattle.frames.specs.Database.{database, GoodFile}
 use Rattle.frames.specs.declared.Refusal.{Refusal}
-use Rattle.frames.specs.declared.Verdict.{Verdict}
-use Rattle.frames.specs.declared.Verdict.TheVariants as verdicts
 use Rattle.frames.proofs.Chains.{below-no, below-yes, pick_first, pick_second}
 use Rattle.frames.proofs.Tables.{laid-length}
-use Rattle.packed.specs.Pool.{written, Adds}
-use Rattle.packed.specs.declared.pool.Grown.{Grown}
-use Rattle.packed.specs.declared.pool.Grown.TheVariants.{To, Full}
+use Rattle.packed.specs.Pool.{written, Adds, Grown}
 use Rattle.packed.proofs.Adding.{adds_same}
 use Rattle.packed.proofs.Joining.{grown-of-to, grown-of-full}
 use Rattle.machine.specs.Memory.{Room}
@@ -23,17 +20,15 @@ use Rattle.told.specs.Says.{room_lent}
 use Rattle.bench.specs.Calls.{room_in}
 use Rattle.bench.proofs.Checking.{filed}
 use Rattle.verdict_text.specs.Text.{refused_line}
-use Rattle.walk.specs.declared.Walked.{Walked}
-use Rattle.walk.specs.declared.Walked.TheVariants.{Refused, Answered}
-use Rattle.walk.specs.Walk.{provable, answer_word, answer_words, walked_of, laid_answers, WalksAll}
+use Rattle.walk.specs.Walk.{Walked, Refused, provable, answer_word, answer_words, walked_of, laid_answers, WalksAll}
 use Rattle.walk.proofs.Promise.{each-answer}
 use Rattle.reply.specs.Output.{greatest, checked_text, text_of, output_of}
 use Rattle.reply.specs.Replies.{Listed, Held, Counted}
 use Rattle.reply.proofs.Lengths.{answers-few, output-few}
 
 -- how many $p were answered, by the variant
-pub counted-some : {walked : Walked} {n : ℕ} → walked ≡ Answered n → Counted walked n
-counted-some {walked} {n} is = record { is = λ m e. let same : Answered n ≡ Answered m = sym is ∙ e in cc }
+pub counted-some : {walked : Walked} {n : ℕ} → walked ≡ Ok n → Counted walked n
+counted-some {walked} {n} is = record { is = λ m e. let same : Ok n ≡ Ok m = sym is ∙ e in cc }
 
 pub counted_none : {walked : Walked} {why : Refusal} {at : ℕ} → walked ≡ Refused why at → Counted walked 0
 counted_none {walked} {why} {at} is = record { is = λ m e. let z : ◌≡◌ {A = ℕ} 0 1 = cc in absurd (omega arith) }
@@ -63,17 +58,17 @@ module _ {f pool stack places answers pool' stack' places' answers' : List ℕ} 
 
 -- a file that is turned away, and a good one
 module _ {f syms stmts syms' stmts' : List ℕ} {v : Verdict} (ch : Checked f syms stmts syms' stmts' v) where
-  pub text-refused : {why : Refusal} {at n : ℕ} {out out' : List ℕ} {r : Grown} → v ≡ verdicts.Refused why at → n ≡ number_of why
+  pub text-refused : {why : Refusal} {at n : ℕ} {out out' : List ℕ} {r : Grown} → v ≡ Refused why at → n ≡ number_of why
       → Adds (refused_line n at) 0 (length out) out out' r → Adds (text_of (verdict f) f) 0 (length out) out out' r
   unfolding text_of
   text-refused {why} {at} is n a = adds_same (rw (sym ch.answers ∙ is) (ap (λ (k : ℕ). refused_line k at) n)) a
 
-  pub text-good : {n k : ℕ} {out out' : List ℕ} {r : Grown} → v ≡ verdicts.Good n k
+  pub text-good : {n k : ℕ} {out out' : List ℕ} {r : Grown} → v ≡ Good n k
       → Adds (checked_text f) 0 (length out) out out' r → Adds (text_of (verdict f) f) 0 (length out) out out' r
   unfolding text_of
   text-good is a = adds_same (rw (sym ch.answers ∙ is) refl) a
 
-  pub listed : {n k : ℕ} → v ≡ verdicts.Good n k → Listed f (take k stmts')
+  pub listed : {n k : ℕ} → v ≡ Good n k → Listed f (take k stmts')
   listed is = let w = filed ch is in record { good = w.good; symbols = refl; statements = w.statements }
 
 -- an input that is too long, and any other
@@ -94,7 +89,7 @@ written-front xs out = take-append_seam xs (drop (0 + length xs) out)
 
 -- a text for which there is room stands at the start
 module _ (text : List ℕ) {out out' : List ℕ} {r : Grown} (a : Adds text 0 (length out) out out' r) (few : length text ≤ length out) where
-  pub stands-to : {n : ℕ} → r ≡ To n → IsPrefixLen n out' × (take n out' ≡ text)
+  pub stands-to : {n : ℕ} → r ≡ Some n → IsPrefixLen n out' × (take n out' ≡ text)
   stands-to {n} is =
       let said = grown-of-to (length text) 0 (length out) n (sym is ∙ a.answers) in
       let same = a.sized in
@@ -103,13 +98,13 @@ module _ (text : List ℕ) {out out' : List ℕ} {r : Grown} (a : Adds text 0 (l
       let within : n ≤ length out' = omega arith in
       ((within, sym (length-take-le n out' within)), rw (there, many) (written-front text out))
 
-  pub stands-full : r ≡ Full → IsPrefixLen 0 out' × (take 0 out' ≡ text)
+  pub stands-full : r ≡ None → IsPrefixLen 0 out' × (take 0 out' ≡ text)
   stands-full is = let over = grown-of-full (length text) 0 (length out) (sym is ∙ a.answers) in absurd (omega arith)
 
 -- there is always room
 module _ (input : List ℕ) {out out' : List ℕ} {r : Grown} (a : Adds (output_of input) 0 (length out) out out' r) (size : 524352 ≤ length out) where
-  pub replies-to : {n : ℕ} → r ≡ To n → IsPrefixLen n out' × (take n out' ≡ output_of input)
+  pub replies-to : {n : ℕ} → r ≡ Some n → IsPrefixLen n out' × (take n out' ≡ output_of input)
   replies-to is = stands-to (output_of input) a (omega (arith, output-few input)) is
 
-  pub replies-full : r ≡ Full → IsPrefixLen 0 out' × (take 0 out' ≡ output_of input)
+  pub replies-full : r ≡ None → IsPrefixLen 0 out' × (take 0 out' ≡ output_of input)
   replies-full is = stands-full (output_of input) a (omega (arith, output-few input)) is

@@ -1,11 +1,9 @@
 -- What the program writes, for any bytes on standard input: the lines as a function of the verdict, of the labels and of the bench's answers.
-use Rattle.std.specs.Prelude.{ℕ, List, ◌++◌, length}
+use Rattle.std.specs.Prelude.{ℕ, List, ◌++◌, length, Ok, Err}
 use Rattle.frames.specs.Logic.{below, pick}
-use Rattle.frames.specs.Verdict.{verdict, number_of}
+use Rattle.frames.specs.Verdict.{verdict, number_of, Verdict}
 use Rattle.frames.specs.Database.{database}
 use Rattle.frames.specs.Facts.{statement_of}
-use Rattle.frames.specs.declared.Verdict.{Verdict}
-use Rattle.frames.specs.declared.Verdict.TheVariants.{Good, Refused}
 use Rattle.machine.specs.Answer.{Answer, number, place, steps}
 use Rattle.machine.specs.Bench.{answer}
 use Rattle.machine.specs.Memory.{Room}
@@ -36,8 +34,8 @@ checked_text f = checked_line (length (provable (database f))) ++ proof_lines f
 
 -- by the verdict on the file
 unfoldable pub text_of : Verdict → List ℕ → List ℕ
-text_of (Good symbols statements) f = checked_text f
-text_of (Refused why place) f = refused_line (number_of why) place
+text_of (Ok sizes) f = checked_text f
+text_of (Err away) f = refused_line (number_of away.why) away.place
 
 -- more than 65,536 bytes are `refused 2 0`
 unfoldable pub output_of : List ℕ → List ℕ

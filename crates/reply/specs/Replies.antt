@@ -1,11 +1,9 @@
 -- What the functions of the program hand to each other.
-use Rattle.std.specs.Prelude.{ℕ, ◌≤◌, ◌<◌, ◌≡◌, List, length, get_or}
+use Rattle.std.specs.Prelude.{ℕ, ◌≤◌, ◌<◌, ◌≡◌, List, length, get_or, Ok}
 use Rattle.frames.specs.Verdict.{index}
 use Rattle.frames.specs.Database.{database}
 use Rattle.resolve.specs.Filed.{Filed}
-use Rattle.walk.specs.Walk.{provable, answer_word}
-use Rattle.walk.specs.declared.Walked.{Walked}
-use Rattle.walk.specs.declared.Walked.TheVariants.{Answered}
+use Rattle.walk.specs.Walk.{provable, answer_word, Walked}
 use Rattle.reply.specs.Output.{greatest}
 
 -- a good file with the offsets of its statements
@@ -19,4 +17,4 @@ pub record Held (f words : List ℕ) : Type 0 where
 
 -- so many $p were answered
 pub record Counted (walked : Walked) (r : ℕ) : Type 0 where
-  pub is : (n : ℕ) → walked ≡ Answered n → r ≡ n
+  pub is : (n : ℕ) → walked ≡ Ok n → r ≡ n

@@ -17,9 +17,8 @@ ghost use Rattle.reply.specs.Replies.{Listed, Held, Counted};
 use answers::{number_in, place_in, steps_in};
 use filecheck::check;
 use frames::numbers::StatementNo;
-use frames::{Verdict, fields};
+use frames::fields;
 use lines::{put_answer, put_checked, put_refused};
-use packed::pool::Grown;
 use proving::offsets;
 use std::io::Read;
 use walk::{Walked, verify_all};
@@ -87,23 +86,19 @@ fn then_answer(
     p: StatementNo,
     word: u64,
     out: &mut [u8],
-    done: Grown,
-) -> Grown
+    done: Option<usize>,
+) -> Option<usize>
     requires listed { Listed file.now statements.now × (p.0 < length statements.now) }
     requires answered { word ≡ answer_word file.now greatest p.0 }
     ensures { Extends (and_then (proof_line file.now p.0)) out.old done out.new result }
 {
-    match done {
-        Grown::To(at) => {
-            let offset = fields::statement_offset(statements, p);
-            let label = fields::label(file, offset);
-            let number = number_in(word);
-            let place = place_in(word);
-            let steps = steps_in(word);
-            put_answer(out, at, label, number, place, steps)
-        }
-        Grown::Full => Grown::Full,
-    }
+    let at = done?;
+    let offset = fields::statement_offset(statements, p);
+    let label = fields::label(file, offset);
+    let number = number_in(word);
+    let place = place_in(word);
+    let steps = steps_in(word);
+    put_answer(out, at, label, number, place, steps)
 }
 
 // Adds a line for each $p of a good file after what is there so far.
@@ -112,8 +107,8 @@ fn then_answers(
     statements: &[u32],
     answers: &[u64],
     out: &mut [u8],
-    first: Grown,
-) -> Grown
+    first: Option<usize>,
+) -> Option<usize>
     requires listed { Listed file.now statements.now }
     requires answered { Held file.now answers.now }
     ensures { Extends (and_then (proof_lines file.now)) out.old first out.new result }
@@ -139,7 +134,7 @@ fn put_lines(
     answers: &[u64],
     count: usize,
     out: &mut [u8],
-) -> Grown
+) -> Option<usize>
     requires listed { Listed file.now statements.now }
     requires answered { Held file.now answers.now × (count ≡ length (provable (database file.now))) }
     ensures { Adds (checked_text file.now) 0 (length out.old) out.old out.new result }
@@ -152,14 +147,11 @@ fn put_lines(
 fn how_many(walked: Walked) -> usize
     ensures { Counted walked result }
 {
-    match walked {
-        Walked::Answered(n) => n,
-        Walked::Refused { why: _, place: _ } => 0,
-    }
+    walked.unwrap_or(0)
 }
 
 // All $p of a good file are answered, with the greatest sizes lent, and their lines are put.
-fn reply_good(file: &[u8], statements: &[u32], out: &mut [u8]) -> Grown
+fn reply_good(file: &[u8], statements: &[u32], out: &mut [u8]) -> Option<usize>
     requires { Listed file.now statements.now }
     ensures { Adds (checked_text file.now) 0 (length out.old) out.old out.new result }
 {
@@ -172,22 +164,19 @@ fn reply_good(file: &[u8], statements: &[u32], out: &mut [u8]) -> Grown
 }
 
 // The file is checked; then its $p, or the line of its refusal.
-fn reply_file(file: &[u8], out: &mut [u8]) -> Grown
+fn reply_file(file: &[u8], out: &mut [u8]) -> Option<usize>
     ensures { Adds (text_of (verdict file.now) file.now) 0 (length out.old) out.old out.new result }
 {
     let mut symbols = offsets();
     let mut statements = offsets();
     match check(file, &mut symbols, &mut statements) {
-        Verdict::Refused { why, place } => put_refused(out, 0, frames::number(why), place),
-        Verdict::Good {
-            symbols: _,
-            statements: k,
-        } => reply_good(file, &statements[..k], out),
+        Err(away) => put_refused(out, 0, frames::number(away.why), away.place),
+        Ok(sizes) => reply_good(file, &statements[..sizes.statements], out),
     }
 }
 
 // Puts all that is written for an input into a buffer, if there is room.
-fn put_reply(input: &[u8], out: &mut [u8]) -> Grown
+fn put_reply(input: &[u8], out: &mut [u8]) -> Option<usize>
     ensures { Adds (output_of input.now) 0 (length out.old) out.old out.new result }
 {
     if input.len() > 65536 {
@@ -202,10 +191,7 @@ fn put_whole(input: &[u8], out: &mut [u8]) -> usize
     ensures prefix_len { IsPrefixLen result out.new }
     ensures out_after { take result out.new ≡ output_of input.now }
 {
-    match put_reply(input, out) {
-        Grown::To(n) => n,
-        Grown::Full => 0,
-    }
+    put_reply(input, out).unwrap_or(0)
 }
 
 // The same, for the page.

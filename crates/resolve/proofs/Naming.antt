@@ -1,5 +1,6 @@
 -- What a label names. No two statements of a good file have one label, so the one that a search finds is the only one that could pass the
 -- definition's tests, and its kind decides between them.
+use Rattle.std.proofs.Common.{Some, None}
 use Prim.Native.Nat.{ℕ, zero, suc, ◌+◌, ◌<◌}
 use mathlib.Core.Path.{◌≡◌, refl, sym, ◌∙◌, ap, subst}
 use mathlib.Core.Bool.{Bool, true, false}
@@ -12,12 +13,10 @@ use lib.ListN.{length, get_or}
 use Rattle.frames.specs.Logic.{equal, pick, either, no, same}
 use Rattle.frames.specs.Table.{used}
 use Rattle.frames.specs.Verdict.{index}
-use Rattle.frames.specs.Search.{FindsStatement}
+use Rattle.frames.specs.Search.{FindsStatement, FoundStatement}
 use Rattle.frames.specs.Database.{Statement, Database, database, statement_at}
 use Rattle.frames.specs.Facts.{◌∈◌, statement_of, Facts}
 use Rattle.frames.specs.declared.numbers.StatementNo.{StatementNo}
-use Rattle.frames.specs.declared.fields.FoundStatement.{FoundStatement}
-use Rattle.frames.specs.declared.fields.FoundStatement.TheVariants.{Statement as Found, NoStatement}
 use Rattle.frames.proofs.Chains.{pick_first, pick_second, equal-yes, equal-true, both-second, either_second, no-of-true, no-of-false}
 use Rattle.frames.proofs.Found.{same_true, same_self}
 use Rattle.frames.proofs.Tells.{true-not-false, both_true, no_true, no_false, either-false, any-witness, any-member}
@@ -191,8 +190,8 @@ essential-kind st e k = true-not-false (equal-yes k) e
 
 module _ (f stmts label : List ℕ) where
   -- the statement that the search found
-  module _ {r : FoundStatement} {s : StatementNo} (e : r ≡ Found s) (finds : FindsStatement f stmts label r) where
-    found : FindsStatement f stmts label (Found s)
+  module _ {r : FoundStatement} {s : StatementNo} (e : r ≡ Some s) (finds : FindsStatement f stmts label r) where
+    found : FindsStatement f stmts label (Some s)
     found = subst (FindsStatement f stmts label) e finds
 
     module _ {syms : List ℕ} (w : Filed f syms stmts) where
@@ -208,19 +207,19 @@ module _ (f stmts label : List ℕ) where
       found-kind : {t : Bool} → is_essential (statement_at f (get_or stmts s.0 0)) ≡ t → is_essential (statement_of (database f) s.0) ≡ t
       found-kind k = ap is_essential (sym found-is) ∙ k
 
-    pub named-found : is_essential (statement_at f (get_or stmts s.0 0)) ≡ false → FindsNamed f stmts label (Found s)
+    pub named-found : is_essential (statement_at f (get_or stmts s.0 0)) ≡ false → FindsNamed f stmts label (Some s)
     unfolding statement_found
     named-found k =
         record { finds = λ syms w. sought-it (database f) (good-facts f w.good) label s.0 (found-there w) (found-label w) (found-kind w k) }
 
-    pub named-essential : is_essential (statement_at f (get_or stmts s.0 0)) ≡ true → FindsNamed f stmts label NoStatement
+    pub named-essential : is_essential (statement_at f (get_or stmts s.0 0)) ≡ true → FindsNamed f stmts label None
     unfolding statement_found
     named-essential k =
         record { finds = λ syms w. sought-not (database f) (good-facts f w.good) label s.0 (found-there w) (found-label w) (found-kind w k) }
 
     module _ (p : ℕ) where
       -- it is no $e
-      label-other : is_essential (statement_at f (get_or stmts s.0 0)) ≡ false → FindsLabel f stmts p label (Found s)
+      label-other : is_essential (statement_at f (get_or stmts s.0 0)) ≡ false → FindsLabel f stmts p label (Some s)
       unfolding statement_found
       label-other k =
           record {
@@ -236,7 +235,7 @@ module _ (f stmts label : List ℕ) where
       listed_at w l m = ap (λ (st : Statement). among st.hyps s.0) (sym (filed-statement w p l)) ∙ m
 
       label-listed : is_essential (statement_at f (get_or stmts s.0 0)) ≡ true → among (statement_at f (get_or stmts p 0)).hyps s.0 ≡ true
-          → FindsLabel f stmts p label (Found s)
+          → FindsLabel f stmts p label (Some s)
       unfolding statement_found
       label-listed k m =
           record {
@@ -249,7 +248,7 @@ module _ (f stmts label : List ℕ) where
           }
 
       pub label-refused : may_name f stmts p s.0 ≡ false
-          → FindsLabel f stmts p label NoStatement
+          → FindsLabel f stmts p label None
       unfolding statement_found may_name
       label-refused t =
           let h = either-false _ _ t in
@@ -261,19 +260,19 @@ module _ (f stmts label : List ℕ) where
           }
 
       pub label-found : may_name f stmts p s.0 ≡ true
-          → FindsLabel f stmts p label (Found s)
+          → FindsLabel f stmts p label (Some s)
       unfolding may_name
       label-found t = tried (is_essential (statement_at f (get_or stmts s.0 0))) refl
         where
           second : {k m : Bool} → k ≡ true → either (no k) m ≡ true → m ≡ true
           second e h = either_second (no-of-true e) refl ∙ h
 
-          tried : (k : Bool) → is_essential (statement_at f (get_or stmts s.0 0)) ≡ k → FindsLabel f stmts p label (Found s)
+          tried : (k : Bool) → is_essential (statement_at f (get_or stmts s.0 0)) ≡ k → FindsLabel f stmts p label (Some s)
           tried true k = label-listed k (second k t)
           tried false k = label-other k
 
   -- it found none
-  module _ {r : FoundStatement} (e : r ≡ NoStatement) (finds : FindsStatement f stmts label r) where
+  module _ {r : FoundStatement} (e : r ≡ None) (finds : FindsStatement f stmts label r) where
     none_has : {syms : List ℕ} → Filed f syms stmts → (k : ℕ) → k < length (database f).statements
         → (statement_of (database f) k).label ≡ label → ⊥
     unfolding database
@@ -281,11 +280,11 @@ module _ (f stmts label : List ℕ) where
         let unused : used f stmts label ≡ false = subst (FindsStatement f stmts label) e finds in
         unfound-statement f (index f) k label (let n = database-statements f in omega arith) (rw w.statements at unused) q
 
-    pub named-absent : FindsNamed f stmts label NoStatement
+    pub named-absent : FindsNamed f stmts label None
     unfolding statement_found
     named-absent = record { finds = λ syms w. sought-absent (database f) (good-facts f w.good) label (none_has w) }
 
-    pub label-nowhere : (p : ℕ) → FindsLabel f stmts p label NoStatement
+    pub label-nowhere : (p : ℕ) → FindsLabel f stmts p label None
     unfolding statement_found
     label-nowhere p =
         record {

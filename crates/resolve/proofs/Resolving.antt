@@ -1,4 +1,5 @@
 -- What a step is: the code's tests are those of the definition, in its order. Each law is one return of the code.
+use Rattle.std.proofs.Common.{Some, None, Err}
 use Prim.Native.Nat.{ℕ, ◌≤◌, ◌<◌}
 use mathlib.Core.Path.{◌≡◌, refl, sym, ◌∙◌, ap, ap₂}
 use mathlib.Core.Bool.{Bool, true, false}
@@ -14,8 +15,7 @@ use Rattle.frames.specs.Database.{Statement, Database, database, statement_at}
 use Rattle.frames.specs.Facts.{statement_of}
 use Rattle.frames.specs.declared.numbers.PlaceNo.{PlaceNo}
 use Rattle.frames.specs.declared.numbers.StatementNo.{StatementNo}
-use Rattle.frames.specs.declared.fields.FoundStatement.{FoundStatement}
-use Rattle.frames.specs.declared.fields.FoundStatement.TheVariants.{Statement as Found, NoStatement}
+use Rattle.frames.specs.Search.{FoundStatement}
 use Rattle.frames.proofs.Chains.{pick_first, pick_second, either_first, either_second, equal-yes, equal-no, equal-true, equal-false, below-yes, below-no, at_most-yes, at_most-no}
 use Rattle.frames.proofs.Tells.{true-not-false, either-false}
 use Rattle.facts.proofs.Decoded.{supposes-kind}
@@ -28,12 +28,9 @@ use Rattle.machine.specs.Reading.{split}
 use Rattle.machine.specs.Memory.{is_some, place_of}
 use Rattle.machine.specs.Prepare.{sought, sought_label, prepare_statement, prepare_found, prepare_local, prepare_named, ambiguous, prepare_normal}
 use Rattle.tokens.specs.Signs.{part_or}
-use Rattle.resolve.specs.declared.PreparedStep.{PreparedStep}
-use Rattle.resolve.specs.declared.PreparedStep.TheVariants.{Place, Hypothesis, Frame, Refused}
-use Rattle.resolve.specs.declared.locals.FoundPlace.{FoundPlace}
-use Rattle.resolve.specs.declared.locals.FoundPlace.TheVariants.{Place as There, NoPlace}
+use Rattle.resolve.specs.Readied.{Readied, Place, Hypothesis, Frame}
+use Rattle.resolve.specs.Locals.{FoundPlace, locals_of, place_found}
 use Rattle.resolve.specs.Filed.{Filed}
-use Rattle.resolve.specs.Locals.{locals_of, place_found}
 use Rattle.resolve.specs.Resolve.{statement_found, readied, Supposable, Sensible, Nameable, FindsNamed, FindsLabel, PreparesStatement, PreparesLabel, TellsAmbiguous, PreparesLocal, PreparesToken}
 use Rattle.resolve.proofs.Filing.{filed-statement}
 
@@ -79,7 +76,7 @@ asserts-kind k low high e = tried (equal k 4) refl
         inr (omega arith)
 
 -- a refusal names no statement, and neither does a place
-refused-sensible : (db : Database) (p : ℕ) (why : Refusal) → Sensible db p (Refused why)
+refused-sensible : (db : Database) (p : ℕ) (why : Refusal) → Sensible db p (Err why)
 refused-sensible db p why =
     record {
       hypothesis = λ h e. let z : ◌≡◌ {A = ℕ} 0 1 = cc in absurd (omega arith);
@@ -95,7 +92,7 @@ place-sensible db p k =
 
 module _ (f stmts : List ℕ) (p : ℕ) (s : StatementNo) where
   -- 29
-  pub statement-later : p ≤ s.0 → PreparesStatement f stmts p s.0 (Refused StepUsedBeforeDefinition)
+  pub statement-later : p ≤ s.0 → PreparesStatement f stmts p s.0 (Err StepUsedBeforeDefinition)
   unfolding prepare_statement readied
   statement-later l =
       record {
@@ -122,7 +119,7 @@ module _ (f stmts : List ℕ) (p : ℕ) (s : StatementNo) where
       supposes-is h = ap supposes kind-is ∙ h
 
     -- 30
-    pub statement-closed : both (equal k 2) (no (within e p)) ≡ true → PreparesStatement f stmts p s.0 (Refused StepUsedAfterScope)
+    pub statement-closed : both (equal k 2) (no (within e p)) ≡ true → PreparesStatement f stmts p s.0 (Err StepUsedAfterScope)
     unfolding prepare_statement readied
     statement-closed out =
         record {
@@ -174,7 +171,7 @@ module _ (f stmts : List ℕ) (p : ℕ) (s : StatementNo) where
 
 -- a roster label
 module _ {f stmts : List ℕ} {p : ℕ} {label : List ℕ} {r : FoundStatement} (finds : FindsLabel f stmts p label r) where
-  pub label-named : {s : StatementNo} {answer : PreparedStep} → r ≡ Found s → PreparesStatement f stmts p s.0 answer
+  pub label-named : {s : StatementNo} {answer : Readied} → r ≡ Some s → PreparesStatement f stmts p s.0 answer
       → PreparesLabel f stmts p label answer
   unfolding prepare_found statement_found
   label-named {s} e prepares =
@@ -187,7 +184,7 @@ module _ {f stmts : List ℕ} {p : ℕ} {label : List ℕ} {r : FoundStatement} 
       }
 
   -- 25
-  pub label-missing : r ≡ NoStatement → PreparesLabel f stmts p label (Refused StepMissing)
+  pub label-missing : r ≡ None → PreparesLabel f stmts p label (Err StepMissing)
   unfolding prepare_found statement_found readied
   label-missing e =
       record {
@@ -218,11 +215,11 @@ module _ (f stmts token : List ℕ) where
               ∙ (ap (λ (l : List ℕ). is_some (sought (database f) l)) (sym is) ∙ (ap is_some (finds.finds syms w) ∙ h)));
         }
 
-    pub tells-ambiguous : {s : StatementNo} → r ≡ Found s → TellsAmbiguous f stmts token true
+    pub tells-ambiguous : {s : StatementNo} → r ≡ Some s → TellsAmbiguous f stmts token true
     unfolding statement_found is_some
     tells-ambiguous e = tells (ap (λ (x : FoundStatement). is_some (statement_found x)) e)
 
-    pub tells-new : r ≡ NoStatement → TellsAmbiguous f stmts token false
+    pub tells-new : r ≡ None → TellsAmbiguous f stmts token false
     unfolding statement_found is_some
     tells-new e = tells (ap (λ (x : FoundStatement). is_some (statement_found x)) e)
 
@@ -232,7 +229,7 @@ module _ (f stmts token : List ℕ) where
 -- the label of a normal token that is no statement's
 module _ (given : Bool) (label text table : List ℕ) (count : ℕ) where
   -- 28
-  pub local-given : given ≡ true → PreparesLocal given label text table count (Refused ChainBackref)
+  pub local-given : given ≡ true → PreparesLocal given label text table count (Err ChainBackref)
   unfolding readied
   local-given e =
       record {
@@ -241,7 +238,7 @@ module _ (given : Bool) (label text table : List ℕ) (count : ℕ) where
       }
 
   module _ (new : given ≡ false) {r : FoundPlace} (finds : place_of label (locals_of text table count) ≡ place_found r) where
-    pub local-there : {k : PlaceNo} → r ≡ There k → PreparesLocal given label text table count (Place k)
+    pub local-there : {k : PlaceNo} → r ≡ Some k → PreparesLocal given label text table count (Place k)
     unfolding readied prepare_local place_found
     local-there {k} e =
         record {
@@ -250,7 +247,7 @@ module _ (given : Bool) (label text table : List ℕ) (count : ℕ) where
         }
 
     -- 25
-    pub local-missing : r ≡ NoPlace → PreparesLocal given label text table count (Refused StepMissing)
+    pub local-missing : r ≡ None → PreparesLocal given label text table count (Err StepMissing)
     unfolding readied prepare_local place_found
     local-missing e =
         record {
@@ -261,7 +258,7 @@ module _ (given : Bool) (label text table : List ℕ) (count : ℕ) where
 -- a normal token
 module _ {f stmts : List ℕ} (p : ℕ) {token : List ℕ} (text table : List ℕ) (count : ℕ) {t : Bool} (tells : TellsAmbiguous f stmts token t) where
   -- 26
-  pub token-ambiguous : t ≡ true → PreparesToken f stmts p token text table count (Refused LocalLabelAmbiguous)
+  pub token-ambiguous : t ≡ true → PreparesToken f stmts p token text table count (Err LocalLabelAmbiguous)
   unfolding prepare_normal readied
   token-ambiguous e =
       record {
@@ -275,7 +272,7 @@ module _ {f stmts : List ℕ} (p : ℕ) {token : List ℕ} (text table : List �
     sought-is syms w i = ap (sought_label (database f) p) (sym is) ∙ finds.finds syms w i
 
     -- the label is a statement's
-    pub token-named : {s : StatementNo} {answer : PreparedStep} → r ≡ Found s → PreparesStatement f stmts p s.0 answer
+    pub token-named : {s : StatementNo} {answer : Readied} → r ≡ Some s → PreparesStatement f stmts p s.0 answer
         → PreparesToken f stmts p token text table count answer
     unfolding prepare_normal prepare_named statement_found
     token-named {s} e prepares =
@@ -288,7 +285,7 @@ module _ {f stmts : List ℕ} (p : ℕ) {token : List ℕ} (text table : List �
         }
 
     -- it is none's
-    pub token-local : {given : Bool} {answer : PreparedStep} → r ≡ NoStatement → given ≡ is_some (split token).local
+    pub token-local : {given : Bool} {answer : Readied} → r ≡ None → given ≡ is_some (split token).local
         → PreparesLocal given label text table count answer → PreparesToken f stmts p token text table count answer
     unfolding prepare_normal prepare_named statement_found
     token-local {given} e g prepares =

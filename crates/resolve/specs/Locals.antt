@@ -1,10 +1,13 @@
 -- The table of local labels, three words each: where its label begins and ends in the text, and its place.
-use Rattle.std.specs.Prelude.{ℕ, ◌+◌, ◌*◌, ◌≡◌, List, [], ◌∷◌, ◌++◌, length, get_or}
-use Rattle.std.proofs.Math.Option.{Option, none, some}
+use Rattle.std.specs.Prelude.{ℕ, ◌+◌, ◌*◌, ◌≡◌, List, [], ◌∷◌, ◌++◌, length, get_or, Option, Some, None}
+use Rattle.std.proofs.Math.Option as math
 use Rattle.frames.specs.Logic.{rows}
 use Rattle.packed.specs.Pool.{range}
-use Rattle.resolve.specs.declared.locals.FoundPlace.{FoundPlace}
-use Rattle.resolve.specs.declared.locals.FoundPlace.TheVariants.{Place, NoPlace}
+use Rattle.frames.specs.declared.numbers.PlaceNo.{PlaceNo}
+
+-- the place of a local label, or none
+abbrev pub FoundPlace : Type 0
+FoundPlace = Option PlaceNo
 
 -- the i-th local label and its place
 unfoldable pub local_at : List ℕ → List ℕ → ℕ → List ℕ × ℕ
@@ -15,9 +18,9 @@ unfoldable pub locals_of : List ℕ → List ℕ → ℕ → List (List ℕ × �
 locals_of text table n = rows (local_at text table) 1 n 0
 
 -- the place that is found, or none
-unfoldable pub place_found : FoundPlace → Option ℕ
-place_found (Place k) = some k.0
-place_found NoPlace = none
+unfoldable pub place_found : FoundPlace → math.Option ℕ
+place_found (Some k) = math.some k.0
+place_found None = math.none
 
 -- one more local label stands in the table, whatever the text is
 pub record AddsLocal (table : List ℕ) (count from to place : ℕ) (table' : List ℕ) : Type 0 where

@@ -7,7 +7,6 @@ ghost use Rattle.resolve.specs.Resolve.{may_name, FindsNamed, FindsLabel};
 ghost use Rattle.label_index.specs.Labelled.{Labelled};
 
 use frames::fields;
-use frames::fields::FoundStatement;
 use frames::numbers::StatementNo;
 use label_index::find_labelled;
 
@@ -46,19 +45,15 @@ fn may_name(file: &[u8], statements: &[u32], p: StatementNo, s: StatementNo) -> 
 }
 
 // The $f, $a or $p of this label.
-pub fn find_named(file: &[u8], statements: &[u32], labels: &[u32], label: &[u8]) -> FoundStatement
+pub fn find_named(file: &[u8], statements: &[u32], labels: &[u32], label: &[u8]) -> Option<StatementNo>
     requires { Labelled file.now statements.now labels.now }
     ensures { FindsNamed file.now statements.now label.now result }
 {
-    match find_labelled(file, statements, labels, label) {
-        FoundStatement::Statement(s) => {
-            if is_essential(file, statements, s) {
-                return FoundStatement::NoStatement;
-            }
-            FoundStatement::Statement(s)
-        },
-        FoundStatement::NoStatement => FoundStatement::NoStatement,
+    let s = find_labelled(file, statements, labels, label)?;
+    if is_essential(file, statements, s) {
+        return None;
     }
+    Some(s)
 }
 
 // The statement that this label names in a proof of p: a $f, $a or $p, or a $e that p lists.
@@ -68,17 +63,13 @@ pub fn find_label(
     labels: &[u32],
     p: StatementNo,
     label: &[u8],
-) -> FoundStatement
+) -> Option<StatementNo>
     requires { Labelled file.now statements.now labels.now }
     ensures { FindsLabel file.now statements.now p.0 label.now result }
 {
-    match find_labelled(file, statements, labels, label) {
-        FoundStatement::Statement(s) => {
-            if may_name(file, statements, p, s) {
-                return FoundStatement::Statement(s);
-            }
-            FoundStatement::NoStatement
-        },
-        FoundStatement::NoStatement => FoundStatement::NoStatement,
+    let s = find_labelled(file, statements, labels, label)?;
+    if may_name(file, statements, p, s) {
+        return Some(s);
     }
+    None
 }

@@ -13,21 +13,19 @@ ghost use Rattle.tokens.specs.Signs.{sign_at};
 ghost use Rattle.label_index.specs.Labelled.{Labelled};
 
 use frames::fields;
-use frames::fields::FoundStatement;
 use frames::numbers::{PlaceNo, StatementNo};
 use frames::record::is_hypothesis;
 use labels::{find_label, find_named};
-use locals::{FoundPlace, find_local};
+use locals::find_local;
 use machine::Refusal;
 use tokens::{find, parts};
 
-// What a step is: what stands at a place, a $f or $e, a $a or $p, or why it is refused.
-#[derive(Clone, Copy)]
+// What a step is: what stands at a place, a $f or $e, a $a or $p.
+#[derive(Clone, Copy, Debug, PartialEq, Eq)]
 pub enum PreparedStep {
     Place(PlaceNo),
     Hypothesis(StatementNo),
     Frame(StatementNo),
-    Refused(Refusal),
 }
 
 // Whether a statement of this kind and scope end is a $f that is out of scope at statement p.
@@ -52,22 +50,22 @@ pub fn prepare_statement(
     statements: &[u32],
     p: StatementNo,
     s: StatementNo,
-) -> PreparedStep
+) -> Result<PreparedStep, Refusal>
     ensures { PreparesStatement file.now statements.now p.0 s.0 result }
 {
     let own = p.0;
     if own <= s.0 {
-        return PreparedStep::Refused(Refusal::StepUsedBeforeDefinition);
+        return Err(Refusal::StepUsedBeforeDefinition);
     }
     let at = fields::statement_offset(statements, s);
     let kind = fields::kind(file, at);
     if out_of_scope(kind, fields::scope_end(file, at), own) {
-        return PreparedStep::Refused(Refusal::StepUsedAfterScope);
+        return Err(Refusal::StepUsedAfterScope);
     }
     if is_hypothesis(kind) {
-        return PreparedStep::Hypothesis(s);
+        return Ok(PreparedStep::Hypothesis(s));
     }
-    PreparedStep::Frame(s)
+    Ok(PreparedStep::Frame(s))
 }
 
 // A roster label as a step in a proof of p: 25, 29, 30.
@@ -77,14 +75,12 @@ pub fn prepare_label(
     labels: &[u32],
     p: StatementNo,
     label: &[u8],
-) -> PreparedStep
+) -> Result<PreparedStep, Refusal>
     requires { Labelled file.now statements.now labels.now }
     ensures { PreparesLabel file.now statements.now p.0 label.now result }
 {
-    match find_label(file, statements, labels, p, label) {
-        FoundStatement::Statement(s) => prepare_statement(file, statements, p, s),
-        FoundStatement::NoStatement => PreparedStep::Refused(Refusal::StepMissing),
-    }
+    let s = find_label(file, statements, labels, p, label).ok_or(Refusal::StepMissing)?;
+    prepare_statement(file, statements, p, s)
 }
 
 // Whether the local label of a token, whose first `:` and `=` are known, is that of a $f, $a or $p.
@@ -102,10 +98,7 @@ fn is_ambiguous(
 {
     if parts::has_local(token, colon) {
         let local = parts::local_label(token, colon, equals);
-        return match find_named(file, statements, labels, local) {
-            FoundStatement::Statement(_) => true,
-            FoundStatement::NoStatement => false,
-        };
+        return find_named(file, statements, labels, local).is_some();
     }
     false
 }
@@ -117,17 +110,15 @@ fn prepare_local(
     text: &[u8],
     locals: &[u32],
     count: usize,
-) -> PreparedStep
+) -> Result<PreparedStep, Refusal>
     requires { count ≤ 4096 }
     ensures { PreparesLocal given label.now text.now locals.now count result }
 {
     if given {
-        return PreparedStep::Refused(Refusal::ChainBackref);
+        return Err(Refusal::ChainBackref);
     }
-    match find_local(text, locals, count, label) {
-        FoundPlace::Place(k) => PreparedStep::Place(k),
-        FoundPlace::NoPlace => PreparedStep::Refused(Refusal::StepMissing),
-    }
+    let k = find_local(text, locals, count, label).ok_or(Refusal::StepMissing)?;
+    Ok(PreparedStep::Place(k))
 }
 
 // A normal token as a step in a proof of p: 26, 28, 25, 29, 30.
@@ -140,7 +131,7 @@ pub fn prepare_step(
     text: &[u8],
     locals: &[u32],
     count: usize,
-) -> PreparedStep
+) -> Result<PreparedStep, Refusal>
     requires labelled { Labelled file.now statements.now labels.now }
     requires count_bound { count ≤ 4096 }
     ensures { PreparesToken file.now statements.now p.0 token.now text.now locals.now count result }
@@ -148,12 +139,12 @@ pub fn prepare_step(
     let colon = find(token, 58);
     let equals = find(token, 61);
     if is_ambiguous(file, statements, labels, token, colon, equals) {
-        return PreparedStep::Refused(Refusal::LocalLabelAmbiguous);
+        return Err(Refusal::LocalLabelAmbiguous);
     }
     let label = parts::label(token, colon, equals);
     match find_label(file, statements, labels, p, label) {
-        FoundStatement::Statement(s) => prepare_statement(file, statements, p, s),
-        FoundStatement::NoStatement => prepare_local(
+        Some(s) => prepare_statement(file, statements, p, s),
+        None => prepare_local(
             parts::has_local(token, colon),
             label,
             text,

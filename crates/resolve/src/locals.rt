@@ -10,13 +10,6 @@ use frames::read::part;
 use frames::refer::entry;
 use frames::text::same_bytes;
 
-// What a search among the local labels finds.
-#[derive(Clone, Copy)]
-pub enum FoundPlace {
-    Place(PlaceNo),
-    NoPlace,
-}
-
 // The bytes of a text from `from` up to `to`.
 pub fn between(text: &[u8], from: u32, to: u32) -> &[u8]
     ensures { result.now ≡ range from to text.now }
@@ -36,7 +29,7 @@ fn local_at<'a>(text: &'a [u8], locals: &[u32], i: usize) -> &'a [u8]
 }
 
 // The place of a local label, among the first `count` of the table.
-pub fn find_local(text: &[u8], locals: &[u32], count: usize, label: &[u8]) -> FoundPlace
+pub fn find_local(text: &[u8], locals: &[u32], count: usize, label: &[u8]) -> Option<PlaceNo>
     requires { count ≤ 4096 }
     ensures { place_of label.now (locals_of text.now locals.now count) ≡ place_found result }
 {
@@ -44,11 +37,11 @@ pub fn find_local(text: &[u8], locals: &[u32], count: usize, label: &[u8]) -> Fo
     while i < count {
         let local = local_at(text, locals, i);
         if same_bytes(local, label) {
-            return FoundPlace::Place(PlaceNo(entry(locals, 3 * i + 2) as usize));
+            return Some(PlaceNo(entry(locals, 3 * i + 2) as usize));
         }
         i += 1;
     }
-    FoundPlace::NoPlace
+    None
 }
 
 // Lays a local label after the first `count`: where it begins and ends in the text, and its place.

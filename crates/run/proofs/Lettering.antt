@@ -1,4 +1,5 @@
 -- The letters that run no step: what each does is what the definition does; and the digits of letters.
+use Rattle.std.proofs.Common.{Ok, Err}
 use Prim.Native.Nat.{ℕ, ◌+◌, ◌-◌, ◌*◌, ◌≤◌, ◌<◌}
 use mathlib.Core.Path.{◌≡◌, refl, sym, ◌∙◌}
 use mathlib.Core.Bool.{Bool, true, false}
@@ -17,12 +18,11 @@ use Rattle.machine.specs.Memory.{Memory}
 use Rattle.machine.specs.Run as machine
 use Rattle.machine.proofs.Stepped.{given, steps-out, save-steps}
 use Rattle.memory.specs.declared.Counts.{Counts}
-use Rattle.memory.specs.declared.Outcome.TheVariants as outcome
 use Rattle.memory.specs.Shown.{SavesTop}
 use Rattle.memory.proofs.Ending.{ends-go, ends-refused}
 use Rattle.apply.proofs.OneHyp.{ranged-more}
 use Rattle.run.specs.declared.Mode.TheVariants.{Letters}
-use Rattle.run.specs.declared.Read.TheVariants.{Go, Stop}
+use Rattle.run.specs.Read.{Go, Stop}
 use Rattle.run.specs.Running.{Env, Tables, bench_of, lent_of}
 use Rattle.run.specs.Reads.{mode_of, letters, Reads, goes, stops}
 use Rattle.run.proofs.Settling.{settled-go, stopped, keeps-stop, keeps-go, save-pool}
@@ -58,7 +58,7 @@ higher-stop many =
 
 -- `Z`
 module _ {stack places places' : List ℕ} {c : Counts} {limit k steps : ℕ} where
-  pub save-go : {c' : Counts} → k < machine.k_limit → SavesTop stack places c limit places' (outcome.Go c') → SaveLetter stack places places' c limit k true steps (Go (Letters k false) c' steps)
+  pub save-go : {c' : Counts} → k < machine.k_limit → SavesTop stack places c limit places' (Ok c') → SaveLetter stack places places' c limit k true steps (Go (Letters k false) c' steps)
   unfolding machine.on_letter unless no mode_of
   save-go {c'} low saves =
       record {
@@ -77,7 +77,7 @@ module _ {stack places places' : List ℕ} {c : Counts} {limit k steps : ℕ} wh
             };
       }
 
-  pub save-full : {why : Refusal} → SavesTop stack places c limit places' (outcome.Refused why) → SaveLetter stack places places' c limit k true steps (Stop why steps)
+  pub save-full : {why : Refusal} → SavesTop stack places c limit places' (Err why) → SaveLetter stack places places' c limit k true steps (Stop why steps)
   unfolding machine.on_letter unless no
   save-full saves =
       record {

@@ -1,4 +1,5 @@
 -- From one part of a run to the next: what a callee asks for, and that the run may go on.
+use Rattle.std.proofs.Common.{Ok}
 use Prim.Native.Nat.{◌*◌, ◌≤◌, ◌<◌}
 use mathlib.Core.Path.{◌≡◌}
 use native.Mathlib.Omega.{arith}
@@ -6,8 +7,7 @@ use lib.ListN.{length}
 use Rattle.machine.specs.Chain.{Result}
 use Rattle.machine.specs.Memory.{Memory}
 use Rattle.memory.specs.declared.Counts.{Counts}
-use Rattle.memory.specs.declared.Outcome.{Outcome}
-use Rattle.memory.specs.declared.Outcome.TheVariants.{Go}
+use Rattle.memory.specs.Outcome.{Outcome}
 use Rattle.memory.proofs.Ending.{ends-go}
 use Rattle.apply.specs.Hyps.{Ranged}
 use Rattle.run.specs.Running.{Env, Tables, Running, Proceeds}
@@ -41,7 +41,7 @@ module _ {e : Env} {t : Tables} {c : Counts} (r : Running e t c) where
   pool-there = let s = r.shown in let f = s.variables_few in (omega arith, (s.pool_few, s.pool_sized))
 
   -- the run may go on after a part of it
-  pub running-on : {t' : Tables} {op : Memory → Result Memory} {answer : Outcome} {c' : Counts} → Proceeds e t t' c op answer → answer ≡ Go c' → Running e t' c'
+  pub running-on : {t' : Tables} {op : Memory → Result Memory} {answer : Outcome} {c' : Counts} → Proceeds e t t' c op answer → answer ≡ Ok c' → Running e t' c'
   running-on {t'} {op} {answer} {c'} p is =
       let w = ends-go (rw is at (p.follows r.memory r.shown)) in
       record { checked = r.checked; sized = p.sized c' is; memory = w.0; shown = w.2 }

@@ -12,7 +12,7 @@ use Rattle.machine.proofs.Gives as Gives-as
 use Rattle.memory.specs.declared.Counts.{Counts}
 use Rattle.memory.specs.Shown.{Shown}
 use Rattle.run.specs.declared.Mode.{Mode}
-use Rattle.run.specs.declared.Read.TheVariants.{Go, Stop}
+use Rattle.run.specs.Read.{Go, Stop}
 use Rattle.run.specs.Running.{Env, Tables, Sized, bench_of, lent_of}
 use Rattle.run.specs.Reads.{mode_of, Low, Reads, goes, stops, Keeps}
 

@@ -1,17 +1,15 @@
 -- Reading a letter.
-use Rattle.std.specs.Prelude.{ℕ, ◌+◌, ◌≡◌, Bool, true, List}
+use Rattle.std.specs.Prelude.{ℕ, ◌+◌, ◌≡◌, Bool, true, List, Ok, Err}
 use Rattle.frames.specs.Database.{database}
 use Rattle.machine.specs.declared.Letter.{Letter}
 use Rattle.machine.specs.declared.Letter.TheVariants.{Last, Higher, Save, Incomplete, Ignored}
 use Rattle.machine.specs.Memory.{Memory}
 use Rattle.machine.specs.Run.{go_on, on_letter}
 use Rattle.memory.specs.declared.Counts.{Counts}
-use Rattle.memory.specs.declared.Outcome.{Outcome}
-use Rattle.memory.specs.declared.Outcome.TheVariants as outcome
+use Rattle.memory.specs.Outcome.{Outcome}
 use Rattle.memory.specs.Shown.{room_of, Shown}
 use Rattle.run.specs.declared.Mode.TheVariants.{Letters}
-use Rattle.run.specs.declared.Read.{Read}
-use Rattle.run.specs.declared.Read.TheVariants.{Go, Stop}
+use Rattle.run.specs.Read.{Read, Go, Stop}
 use Rattle.run.specs.Running.{Env, Tables, Sized, Running, width_of, bench_of, lent_of, with_places_of}
 use Rattle.run.specs.Reads.{Reads, Keeps}
 
@@ -23,8 +21,8 @@ pub record ReadsLetter (e : Env) (t t' : Tables) (c : Counts) (k : ℕ) (can_sav
 
 -- after the step of a letter: it is completed, and `Z` may come; or it is refused, and not counted
 unfoldable pub after_last : Outcome → ℕ → Read
-after_last (outcome.Go c) steps = Go (Letters 0 true) c (steps + 1)
-after_last (outcome.Refused why) steps = Stop why steps
+after_last (Ok c) steps = Go (Letters 0 true) c (steps + 1)
+after_last (Err why) steps = Stop why steps
 
 -- `A`..`T`
 abbrev pub LastLetter : Env → Tables → Tables → Counts → ℕ → ℕ → ℕ → Read → Type 0

@@ -8,8 +8,7 @@ use Rattle.memory.specs.declared.Counts.{Counts}
 use Rattle.memory.specs.Shown.{Shown}
 use Rattle.run.specs.declared.Mode.{Mode}
 use Rattle.run.specs.declared.Mode.TheVariants.{Beginning, Normal, Roster, Letters}
-use Rattle.run.specs.declared.Read.{Read}
-use Rattle.run.specs.declared.Read.TheVariants.{Go, Stop}
+use Rattle.run.specs.Read.{Read, Go, Stop}
 use Rattle.run.specs.Running.{Env, Tables, Sized, bench_of, lent_of}
 
 -- the definition's mode

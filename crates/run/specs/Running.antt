@@ -1,13 +1,12 @@
 -- Where a run stands: what is under check, the tables, and that they show some memory of the definition; and what a part of a run does.
-use Rattle.std.specs.Prelude.{ℕ, ◌*◌, ◌≤◌, ◌<◌, ◌≡◌, List, length}
+use Rattle.std.specs.Prelude.{ℕ, ◌*◌, ◌≤◌, ◌<◌, ◌≡◌, List, length, Ok}
 use Rattle.frames.specs.Database.{database}
 use Rattle.machine.specs.Chain.{Result}
 use Rattle.machine.specs.Memory.{Memory}
 use Rattle.resolve.specs.Filed.{Filed}
 use Rattle.memory.specs.declared.Counts.{Counts}
 use Rattle.memory.specs.declared.Limits.{Limits}
-use Rattle.memory.specs.declared.Outcome.{Outcome}
-use Rattle.memory.specs.declared.Outcome.TheVariants.{Go}
+use Rattle.memory.specs.Outcome.{Outcome}
 use Rattle.memory.specs.Shown.{Bench, Lent, bench, lent, Shown, Ends}
 use Rattle.apply.specs.Hyps.{Ranged}
 use Rattle.apply.specs.Step.{Under}
@@ -82,5 +81,5 @@ pub record Running (e : Env) (t : Tables) (c : Counts) : Type 0 where
 
 -- a part of a run: for every memory that the tables show, the outcome is the definition's, and then the tables show what comes out
 pub record Proceeds (e : Env) (t t' : Tables) (c : Counts) (op : Memory → Result Memory) (answer : Outcome) : Type 0 where
-  pub sized : (c' : Counts) → answer ≡ Go c' → Sized (width_of e) t' c'.used
+  pub sized : (c' : Counts) → answer ≡ Ok c' → Sized (width_of e) t' c'.used
   pub follows : (m : Memory) → Shown (bench_of e) (lent_of t) c m → Ends (Shown (bench_of e) (lent_of t')) (op m) answer

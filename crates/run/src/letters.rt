@@ -4,7 +4,7 @@ ghost use Rattle.std.specs.Prelude.{◌≡◌, ◌*◌, ◌≤◌, ◌<◌, leng
 ghost use Rattle.machine.specs.Run.{k_limit};
 ghost use Rattle.run.specs.Letters.{after_last, HigherLetter, SaveLetter, IncompleteLetter};
 
-use crate::{Mode, Read};
+use crate::{Going, Halted, Mode, Read};
 use machine::Refusal;
 use memory::stack::save_top;
 use memory::{Counts, Outcome};
@@ -25,20 +25,20 @@ pub fn after_last(outcome: Outcome, steps: usize) -> Read
     ensures { result ≡ after_last outcome steps }
 {
     match outcome {
-        Outcome::Go(now) => Read::Go {
+        Ok(now) => Ok(Going {
             mode: Mode::Letters {
                 k: 0,
                 can_save: AFTER_STEP,
             },
             counts: now,
             steps: steps + 1,
-        },
-        Outcome::Refused(why) => {
+        }),
+        Err(why) => {
             let completed = steps;
-            Read::Stop {
+            Err(Halted {
                 why: why,
                 steps: completed,
-            }
+            })
         }
     }
 }
@@ -50,19 +50,19 @@ pub fn higher_letter(c: Counts, k: usize, d: usize, steps: usize) -> Read
 {
     let next = 5 * k + d;
     if next < K_LIMIT {
-        return Read::Go {
+        return Ok(Going {
             mode: Mode::Letters {
                 k: next,
                 can_save: AFTER_DIGIT,
             },
             counts: c,
             steps: steps,
-        };
+        });
     }
-    Read::Stop {
+    Err(Halted {
         why: Refusal::ProofMalformedVarint,
         steps: steps,
-    }
+    })
 }
 
 // `Z`: saves the top: 23 where it may not come, 46.
@@ -80,29 +80,20 @@ pub fn save_letter(
     ensures { SaveLetter stack.now places.old places.new c limit k saves steps result }
 {
     if saves {
-        match save_top(stack, places, c, limit) {
-            Outcome::Go(now) => {
-                return Read::Go {
-                    mode: Mode::Letters {
-                        k: k,
-                        can_save: AFTER_SAVE,
-                    },
-                    counts: now,
-                    steps: steps,
-                };
-            }
-            Outcome::Refused(why) => {
-                return Read::Stop {
-                    why: why,
-                    steps: steps,
-                };
-            }
-        }
+        let now = save_top(stack, places, c, limit).map_err(|why| Halted { why, steps })?;
+        return Ok(Going {
+            mode: Mode::Letters {
+                k: k,
+                can_save: AFTER_SAVE,
+            },
+            counts: now,
+            steps: steps,
+        });
     }
-    Read::Stop {
+    Err(Halted {
         why: Refusal::ProofInvalidSave,
         steps: steps,
-    }
+    })
 }
 
 // `?`: 22 with k above 0, else 24.
@@ -110,13 +101,13 @@ pub fn incomplete_letter(k: usize, steps: usize) -> Read
     ensures { IncompleteLetter k steps result }
 {
     if 0 < k {
-        return Read::Stop {
+        return Err(Halted {
             why: Refusal::ProofMalformedVarint,
             steps: steps,
-        };
+        });
     }
-    Read::Stop {
+    Err(Halted {
         why: Refusal::ProofIncomplete,
         steps: steps,
-    }
+    })
 }

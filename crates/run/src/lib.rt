@@ -16,16 +16,20 @@ pub enum Mode {
     Letters { k: usize, can_save: bool },
 }
 
-// After a letter or a token: the run goes on, or it is refused after so many steps.
+// The run goes on: how, with which counts, and after how many completed steps.
 #[derive(Clone, Copy)]
-pub enum Read {
-    Go {
-        mode: Mode,
-        counts: Counts,
-        steps: usize,
-    },
-    Stop {
-        why: Refusal,
-        steps: usize,
-    },
+pub struct Going {
+    pub mode: Mode,
+    pub counts: Counts,
+    pub steps: usize,
 }
+
+// The run is refused: why, and after how many completed steps.
+#[derive(Clone, Copy, Debug, PartialEq, Eq)]
+pub struct Halted {
+    pub why: Refusal,
+    pub steps: usize,
+}
+
+// After a letter or a token.
+pub type Read = Result<Going, Halted>;

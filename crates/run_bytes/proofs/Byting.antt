@@ -1,4 +1,5 @@
 -- A byte: a letter is judged at once, a token at the divider after it, any other byte is one more of its token.
+use Rattle.std.proofs.Common.{Ok, Err}
 use Prim.Native.Nat.{ℕ, suc, ◌+◌, ◌-◌, ◌≤◌, ◌<◌}
 use mathlib.Core.Path.{◌≡◌, refl, sym, ◌∙◌, ap}
 use mathlib.Core.Bool.{Bool, true, false}
@@ -18,11 +19,9 @@ use Rattle.memory.specs.declared.Counts.{Counts}
 use Rattle.memory.specs.Shown.{room_of, Shown}
 use Rattle.run.specs.declared.Mode.{Mode}
 use Rattle.run.specs.declared.Mode.TheVariants.{Letters}
-use Rattle.run.specs.declared.Read.{Read}
-use Rattle.run.specs.declared.Read.TheVariants.{Go, Stop}
+use Rattle.run.specs.Read.{Read, Go, Stop}
 use Rattle.run_bytes.specs.declared.State.{State}
-use Rattle.run_bytes.specs.declared.Next.{Next}
-use Rattle.run_bytes.specs.declared.Next.TheVariants.{Going, Over}
+use Rattle.run_bytes.specs.Next.{Next}
 use Rattle.run.specs.Running.{Env, Tables, Sized, bench_of, lent_of, width_of}
 use Rattle.run.specs.Reads as low-as
 use Rattle.run.specs.Reads.{mode_of, Low, Reads, goes, stops, Keeps}
@@ -35,7 +34,7 @@ unfolding range
 range_none at text = let z : at - at ≡ 0 = omega arith in rw z refl
 
 module _ {at place : ℕ} where
-  pub after-go : {mode : Mode} {c : Counts} {steps : ℕ} → After (Go mode c steps) at place (Going (record { mode = mode; token = at + 1; steps = steps; counts = c }))
+  pub after-go : {mode : Mode} {c : Counts} {steps : ℕ} → After (Go mode c steps) at place (Ok (record { mode = mode; token = at + 1; steps = steps; counts = c }))
   unfolding machine.go_on
   after-go {mode} {c} {steps} =
       record {
@@ -50,7 +49,7 @@ module _ {at place : ℕ} where
       }
     where
       gone : (e : Env) (t : Tables) {state : machine.State} {read : Read} → Reads e t place (machine.go_on at) state read → read ≡ Go mode c steps
-          → Alike e t (at + 1) state (Going (record { mode = mode; token = at + 1; steps = steps; counts = c }))
+          → Alike e t (at + 1) state (Ok (record { mode = mode; token = at + 1; steps = steps; counts = c }))
       gone e t (goes {mode = mode'} {c = c'} {steps = steps'} s n) is =
           let a : mode' ≡ mode = cc in
           let b : c' ≡ c = cc in
@@ -59,7 +58,7 @@ module _ {at place : ℕ} where
           going (record { shown = rw b at s; steps = n ∙ d; mode = ap mode_of a; token = range_none (at + 1) e.text; place = suc-is })
       gone e t stops is = let z : ◌≡◌ {A = ℕ} 0 1 = cc in absurd (omega arith)
 
-  pub after_stop : {why : Refusal} {steps : ℕ} → After (Stop why steps) at place (Over (record { why = why; place = place; steps = steps }))
+  pub after_stop : {why : Refusal} {steps : ℕ} → After (Stop why steps) at place (Err (record { why = why; place = place; steps = steps }))
   after_stop {why} {steps} =
       record {
         keeps = λ w t n k.
@@ -73,7 +72,7 @@ module _ {at place : ℕ} where
       }
     where
       gone : (e : Env) (t : Tables) {state : machine.State} {read : Read} → Reads e t place (machine.go_on at) state read → read ≡ Stop why steps
-          → Alike e t (at + 1) state (Over (record { why = why; place = place; steps = steps }))
+          → Alike e t (at + 1) state (Err (record { why = why; place = place; steps = steps }))
       gone e t (goes s n) is = let z : ◌≡◌ {A = ℕ} 0 1 = cc in absurd (omega arith)
       gone e t (stops {why = why'} {steps = steps'}) is =
           let a : why' ≡ why = cc in
@@ -118,7 +117,7 @@ by-plain db p room m token at b roster = refl
 
 module _ {e : Env} {t : Tables} {s : State} {at b : ℕ} (plain : Plain s.mode) (low : Low s.mode) (z : Sized (width_of e) t s.counts.used) (before : s.token ≤ at) where
   -- one more of the token
-  pub plain_more : divider b ≡ false → at < length e.text → b ≡ get_or e.text at 0 → ReadsByte e t t s at b (Going s)
+  pub plain_more : divider b ≡ false → at < length e.text → b ≡ get_or e.text at 0 → ReadsByte e t t s at b (Ok s)
   unfolding machine.on_byte machine.on_plain pick
   plain_more other inside is =
       record {
@@ -143,7 +142,7 @@ module _ {e : Env} {t : Tables} {s : State} {at b : ℕ} (plain : Plain s.mode) 
       }
 
   -- a divider with no token before it
-  pub plain-none : divider b ≡ true → s.token ≡ at → ReadsByte e t t s at b (Going (record { mode = s.mode; token = at + 1; steps = s.steps; counts = s.counts }))
+  pub plain-none : divider b ≡ true → s.token ≡ at → ReadsByte e t t s at b (Ok (record { mode = s.mode; token = at + 1; steps = s.steps; counts = s.counts }))
   unfolding machine.on_byte machine.on_plain machine.end_token machine.go_on pick
   plain-none divides none =
       record {

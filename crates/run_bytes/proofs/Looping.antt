@@ -1,4 +1,5 @@
 -- The bytes one after another: so far the code stands where the definition stands, and what is left to read is what the whole reads (`SoFar`).
+use Rattle.std.proofs.Common.{Ok, Err}
 use Prim.Native.Nat.{ℕ, suc, ◌+◌, ◌≤◌, ◌<◌}
 use mathlib.Core.Path.{◌≡◌, refl, sym, ◌∙◌, ap}
 use mathlib.Core.List.{List, [], ◌∷◌}
@@ -14,7 +15,6 @@ use Rattle.memory.specs.declared.Counts.{Counts}
 use Rattle.memory.specs.Shown.{Bench, Lent, room_of, Shown}
 use Rattle.run_bytes.specs.declared.State.{State}
 use Rattle.run_bytes.specs.declared.Stopped.{Stopped}
-use Rattle.run_bytes.specs.declared.Next.TheVariants.{Going, Over}
 use Rattle.run.specs.Running.{Env, Tables, Running}
 use Rattle.run.specs.Reads.{mode_of, Low}
 use Rattle.run_bytes.specs.Bytes.{Stands, Alike, going, over, ReadsByte, ReadsText}
@@ -92,7 +92,7 @@ somewhere {e} {t} {s} at r = (
 )
 
 -- what goes on, and what is over
-pub alike-going : {e : Env} {t : Tables} {at : ℕ} {state : machine.State} {s : State} → Alike e t at state (Going s) → (d : machine.Standing) × (state ≡ machine.going d) × Stands e t s at d
+pub alike-going : {e : Env} {t : Tables} {at : ℕ} {state : machine.State} {s : State} → Alike e t at state (Ok s) → (d : machine.Standing) × (state ≡ machine.going d) × Stands e t s at d
 alike-going (going {d = d} st) = (d, refl, st)
 
 pub over-bytes : (db : Database) (p : ℕ) (room : Room) (a : Answer) (bs : List ℕ) → machine.on_bytes db p room (machine.over a) bs ≡ machine.over a
@@ -104,7 +104,7 @@ on-cons : (db : Database) (p : ℕ) (room : Room) (s : machine.State) (b : ℕ) 
 unfolding machine.on_bytes
 on-cons db p room s b bs = refl
 
-pub alike-over : {e : Env} {t : Tables} {at : ℕ} {state : machine.State} {x : Stopped} → Alike e t at state (Over x) → state ≡ machine.over (refused x.why x.place x.steps)
+pub alike-over : {e : Env} {t : Tables} {at : ℕ} {state : machine.State} {x : Stopped} → Alike e t at state (Err x) → state ≡ machine.over (refused x.why x.place x.steps)
 alike-over over = refl
 
 module _ {e : Env} {t₀ t : Tables} {s₀ s : State} {i b : ℕ} (so : SoFar e t₀ t s₀ s i) (more : i < length e.text) (b-is : b ≡ get_or e.text i 0) where
@@ -120,7 +120,7 @@ module _ {e : Env} {t₀ t : Tables} {s₀ s : State} {i b : ℕ} (so : SoFar e 
       ∙ on-cons (database e.file) e.asked (room_of e.limits) (machine.going d) b (drop (i + 1) e.text)
 
   -- one byte more
-  pub so_far_more : {t' : Tables} {s' : State} → SameSizes t t' → ReadsByte e t t' s i b (Going s') → SoFar e t₀ t' s₀ s' (i + 1)
+  pub so_far_more : {t' : Tables} {s' : State} → SameSizes t t' → ReadsByte e t t' s i b (Ok s') → SoFar e t₀ t' s₀ s' (i + 1)
   so_far_more {t'} {s'} same-sizes byte =
       let here = somewhere {e = e} {t = t} {s = s} i so.running in
       let now = alike-going (byte.follows here.0 here.1) in
@@ -150,7 +150,7 @@ module _ {e : Env} {t₀ t : Tables} {s₀ s : State} {i b : ℕ} (so : SoFar e 
       }
 
   -- the run is over
-  pub so-far-over : {t' : Tables} {x : Stopped} → ReadsByte e t t' s i b (Over x) → ReadsText e t₀ t' s₀ (Over x)
+  pub so-far-over : {t' : Tables} {x : Stopped} → ReadsByte e t t' s i b (Err x) → ReadsText e t₀ t' s₀ (Err x)
   so-far-over {t'} {x} byte =
       record {
         running = λ s' q. let z : ◌≡◌ {A = ℕ} 0 1 = cc in absurd (omega arith);
@@ -166,7 +166,7 @@ module _ {e : Env} {t₀ t : Tables} {s₀ s : State} {i b : ℕ} (so : SoFar e 
       }
 
 -- all is read
-pub so-far-done : {e : Env} {t₀ t : Tables} {s₀ s : State} {i : ℕ} → SoFar e t₀ t s₀ s i → length e.text ≤ i → ReadsText e t₀ t s₀ (Going s)
+pub so-far-done : {e : Env} {t₀ t : Tables} {s₀ s : State} {i : ℕ} → SoFar e t₀ t s₀ s i → length e.text ≤ i → ReadsText e t₀ t s₀ (Ok s)
 unfolding machine.on_bytes
 so-far-done {e} {t₀} {t} {s₀} {s} {i} so all =
     record {

@@ -29,7 +29,7 @@ pub struct State {
 }
 
 // Why a run is over, where, and after how many steps.
-#[derive(Clone, Copy)]
+#[derive(Clone, Copy, Debug, PartialEq, Eq)]
 pub struct Stopped {
     pub why: Refusal,
     pub place: usize,
@@ -37,11 +37,7 @@ pub struct Stopped {
 }
 
 // The run goes on, or it is over.
-#[derive(Clone, Copy)]
-pub enum Next {
-    Going(State),
-    Over(Stopped),
-}
+pub type Next = Result<State, Stopped>;
 
 // What was read goes on after the byte at `at`, with no token begun.
 fn after(read: Read, at: usize, place: usize) -> Next
@@ -49,20 +45,16 @@ fn after(read: Read, at: usize, place: usize) -> Next
     ensures { After read at place result }
 {
     match read {
-        Read::Go {
-            mode,
-            counts,
-            steps,
-        } => Next::Going(State {
-            mode: mode,
+        Ok(going) => Ok(State {
+            mode: going.mode,
             token: at + 1,
-            steps: steps,
-            counts: counts,
+            steps: going.steps,
+            counts: going.counts,
         }),
-        Read::Stop { why, steps } => Next::Over(Stopped {
-            why: why,
+        Err(halted) => Err(Stopped {
+            why: halted.why,
             place: place,
-            steps: steps,
+            steps: halted.steps,
         }),
     }
 }
@@ -179,14 +171,14 @@ fn plain_byte(
             );
         }
         let c = s.counts;
-        return Next::Going(State {
+        return Ok(State {
             mode: mode,
             token: at + 1,
             steps: s.steps,
             counts: c,
         });
     }
-    Next::Going(s)
+    Ok(s)
 }
 
 // The byte at `at`.
@@ -323,16 +315,11 @@ pub fn read_text(
     ensures { ReadsText (env file.now symbols.now statements.now p.0 text.now table.now limits) (tables seats.old froms.old tos.old sets.old numbers.old pool.old stack.old places.old locals.old tree.old) (tables seats.new froms.new tos.new sets.new numbers.new pool.new stack.new places.new locals.new tree.new) start result }
 {
     let mut s = start;
-    let mut i = 0;
-    while i < text.len() {
-        match on_byte(
+    for i in 0..text.len() {
+        s = on_byte(
             file, symbols, statements, labels, p, text, table, seats, froms, tos, sets, numbers,
             pool, stack, places, locals, tree, limits, s, i,
-        ) {
-            Next::Going(next) => s = next,
-            Next::Over(x) => return Next::Over(x),
-        }
-        i += 1;
+        )?;
     }
-    Next::Going(s)
+    Ok(s)
 }

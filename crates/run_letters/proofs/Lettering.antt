@@ -1,4 +1,5 @@
 -- The letters that run a step: what each does is what the definition does.
+use Rattle.std.proofs.Common.{Ok, Err}
 use Prim.Native.Nat.{ℕ, ◌+◌, ◌*◌}
 use mathlib.Core.Path.{◌≡◌, refl, ◌∙◌}
 use mathlib.Core.Bool.{true}
@@ -13,14 +14,13 @@ use Rattle.machine.specs.Run as machine
 use Rattle.machine.proofs.Stepped.{steps-out, step-at-steps}
 use Rattle.memory.specs.declared.Counts.{Counts}
 use Rattle.memory.specs.declared.Limits.{Limits}
-use Rattle.memory.specs.declared.Outcome.{Outcome}
-use Rattle.memory.specs.declared.Outcome.TheVariants as outcome
+use Rattle.memory.specs.Outcome.{Outcome}
 use Rattle.memory.specs.Shown.{room_of, bench, lent, mark_of, Shown, Ends}
 use Rattle.memory.proofs.Ending.{ends-go, ends-refused}
 use Rattle.apply.proofs.OneHyp.{ranged-more}
 use Rattle.engine.specs.Place.{RunsPlace}
 use Rattle.run.specs.declared.Mode.TheVariants.{Letters}
-use Rattle.run.specs.declared.Read.TheVariants.{Go, Stop}
+use Rattle.run.specs.Read.{Go, Stop}
 use Rattle.run.specs.Running.{env, tables, Running}
 use Rattle.run.specs.Reads.{mode_of, letters}
 use Rattle.run.proofs.Settling.{settled-go, stopped, keeps-stop, keeps-go}
@@ -43,7 +43,7 @@ module _ {f syms stmts : List ℕ} {p : ℕ} {text table : List ℕ} {limits : L
 -- `A`..`T`
 module _ {f syms stmts : List ℕ} {p : ℕ} {text table : List ℕ} {limits : Limits} {seats seats' froms tos sets numbers pool stack places locals tree froms' tos' sets' pool' stack' tree' : List ℕ} {c : Counts} {k d steps : ℕ}
     (r : Running (env f syms stmts p text table limits) (tables seats froms tos sets numbers pool stack places locals tree) c) where
-  last-go : {c' : Counts} → length seats' ≡ length seats → RunsPlace f syms stmts text table froms tos sets pool stack tree places (20 * k + d) c limits 0 0 froms' tos' sets' pool' stack' tree' (outcome.Go c')
+  last-go : {c' : Counts} → length seats' ≡ length seats → RunsPlace f syms stmts text table froms tos sets pool stack tree places (20 * k + d) c limits 0 0 froms' tos' sets' pool' stack' tree' (Ok c')
       → LastLetter (env f syms stmts p text table limits) (tables seats froms tos sets numbers pool stack places locals tree) (tables seats' froms' tos' sets' numbers pool' stack' places locals tree') c k d steps
       (Go (Letters 0 true) c' (steps + 1))
   unfolding machine.on_letter mode_of
@@ -65,7 +65,7 @@ module _ {f syms stmts : List ℕ} {p : ℕ} {text table : List ℕ} {limits : L
             settled-go m.steps (machine.go_on at) (Letters 0 true) w.1 w.2 (let n' = steps-out (step-at-steps _ _ _ _ _) w.1 in omega arith);
       }
 
-  last-stop : {why : Refusal} → RunsPlace f syms stmts text table froms tos sets pool stack tree places (20 * k + d) c limits 0 0 froms' tos' sets' pool' stack' tree' (outcome.Refused why)
+  last-stop : {why : Refusal} → RunsPlace f syms stmts text table froms tos sets pool stack tree places (20 * k + d) c limits 0 0 froms' tos' sets' pool' stack' tree' (Err why)
       → LastLetter (env f syms stmts p text table limits) (tables seats froms tos sets numbers pool stack places locals tree) (tables seats' froms' tos' sets' numbers pool' stack' places locals tree') c k d steps
       (Stop why steps)
   unfolding machine.on_letter
@@ -79,5 +79,5 @@ module _ {f syms stmts : List ℕ} {p : ℕ} {text table : List ℕ} {limits : L
       → LastLetter (env f syms stmts p text table limits) (tables seats froms tos sets numbers pool stack places locals tree) (tables seats' froms' tos' sets' numbers pool' stack' places locals tree') c k d steps
       (after_last answer steps)
   unfolding after_last
-  last-read same-seats (outcome.Go c') runs = last-go same-seats runs
-  last-read same-seats (outcome.Refused why) runs = last-stop runs
+  last-read same-seats (Ok c') runs = last-go same-seats runs
+  last-read same-seats (Err why) runs = last-stop runs

@@ -13,7 +13,7 @@ use frames::numbers::{PlaceNo, StatementNo};
 use machine::Letter;
 use memory::{Counts, Limits};
 use run::letters::{after_last, higher_letter, incomplete_letter, save_letter};
-use run::{Mode, Read};
+use run::{Going, Mode, Read};
 use tokens::letter;
 
 // `A`..`T`: the step at place 20k + d.
@@ -102,13 +102,13 @@ pub fn on_letter(
         Letter::Higher(e) => higher_letter(c, k, e, steps),
         Letter::Save => save_letter(stack, places, c, limits.places, k, saves, steps),
         Letter::Incomplete => incomplete_letter(k, steps),
-        Letter::Ignored => Read::Go {
+        Letter::Ignored => Ok(Going {
             mode: Mode::Letters {
                 k: k,
                 can_save: saves,
             },
             counts: c,
             steps: steps,
-        },
+        }),
     }
 }

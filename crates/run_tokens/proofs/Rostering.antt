@@ -1,4 +1,5 @@
 -- The first token, the roster, and a token in each mode.
+use Rattle.std.proofs.Common.{Ok, Err}
 use Prim.Native.Nat.{ℕ, ◌*◌, ◌≤◌}
 use mathlib.Core.Path.{◌≡◌, refl, ◌∙◌}
 use mathlib.Core.Bool.{Bool, true, false}
@@ -18,8 +19,7 @@ use Rattle.machine.proofs.Stepped.{StepsAre, steps-out, preload-steps, roster-st
 use Rattle.packed.specs.Pool.{range}
 use Rattle.resolve.proofs.Filing.{filed-located}
 use Rattle.memory.specs.declared.Counts.{Counts}
-use Rattle.memory.specs.declared.Outcome.{Outcome}
-use Rattle.memory.specs.declared.Outcome.TheVariants.{Go, Refused}
+use Rattle.memory.specs.Outcome.{Outcome}
 use Rattle.memory.specs.Shown.{room_of, Shown}
 use Rattle.memory.proofs.Ending.{ends-go, ends-refused}
 use Rattle.apply.proofs.OneHyp.{ranged-more}
@@ -28,8 +28,7 @@ use Rattle.engine.specs.Roster.{PreparesRoster, Preloads}
 use Rattle.run.specs.Running.{Env, Tables, tables, Sized, Running, Proceeds, bench_of, lent_of, width_of}
 use Rattle.run.specs.declared.Mode.{Mode}
 use Rattle.run.specs.declared.Mode.TheVariants.{Beginning, Normal, Roster, Letters}
-use Rattle.run.specs.declared.Read.{Read}
-use Rattle.run.specs.declared.Read.TheVariants as read
+use Rattle.run.specs.Read.{Read, Go}
 use Rattle.run.specs.Reads.{mode_of, Low, roster, letters, Reads, goes, Keeps}
 use Rattle.run_tokens.specs.Tokens.{ReadsNormal, roster_read, ReadsToken}
 use Rattle.run.proofs.Settling.{settled-go, stopped, keeps-stop, keeps-go}
@@ -38,17 +37,17 @@ use Rattle.run.proofs.Settling.{settled-go, stopped, keeps-stop, keeps-go}
 module _ {e : Env} {t t' : Tables} {c : Counts} {op : Memory → Result Memory} (counts : (m : Memory) → Gives (StepsAre m.steps) (op m)) where
   roster-keeps : (outcome : Outcome) (steps : ℕ) → Proceeds e t t' c op outcome → Keeps (width_of e) t' steps (roster_read outcome steps)
   unfolding roster_read
-  roster-keeps (Go c') steps takes = keeps-go (takes.sized c' refl) roster (omega arith)
-  roster-keeps (Refused why) steps takes = keeps-stop
+  roster-keeps (Ok c') steps takes = keeps-go (takes.sized c' refl) roster (omega arith)
+  roster-keeps (Err why) steps takes = keeps-stop
 
   roster-reads : (outcome : Outcome) {steps : ℕ} (from : ℕ) (m : Memory) (next : machine.Mode → Memory → machine.State) → Proceeds e t t' c op outcome → m.steps ≡ steps
       → Shown (bench_of e) (lent_of t) c m
       → Reads e t' from next (machine.settle (op m) from m.steps (next machine.in_roster)) (roster_read outcome steps)
   unfolding roster_read mode_of
-  roster-reads (Go c') from m next takes n shown =
+  roster-reads (Ok c') from m next takes n shown =
       let w = ends-go (takes.follows m shown) in
       settled-go m.steps next Roster w.1 w.2 (steps-out (counts m) w.1 ∙ n)
-  roster-reads (Refused why) from m next takes n shown = stopped next _ n (ends-refused (takes.follows m shown))
+  roster-reads (Err why) from m next takes n shown = stopped next _ n (ends-refused (takes.follows m shown))
 
 -- the tables with these numbers, this pool and these places
 abbrev with_roster : Tables → List ℕ → List ℕ → List ℕ → Tables
@@ -125,7 +124,7 @@ module _ {e : Env} {t : Tables} {c : Counts} (r : Running e t c) where
 
     -- `)`
     pub token-closes : {mode : Mode} → mode ≡ Roster → same (range from to e.text) closing ≡ true
-        → ReadsToken e t t c mode from to steps (read.Go (Letters 0 false) c steps)
+        → ReadsToken e t t c mode from to steps (Ok (Letters 0 false) c steps)
     unfolding machine.on_token mode_of pick
     token-closes is closes =
         record {
@@ -148,7 +147,7 @@ module _ {e : Env} {t : Tables} {c : Counts} (r : Running e t c) where
         }
 
     -- in the letters
-    pub token-letters : {mode : Mode} {k : ℕ} {can_save : Bool} → mode ≡ Letters k can_save → Low mode → ReadsToken e t t c mode from to steps (read.Go (Letters k can_save) c steps)
+    pub token-letters : {mode : Mode} {k : ℕ} {can_save : Bool} → mode ≡ Letters k can_save → Low mode → ReadsToken e t t c mode from to steps (Ok (Letters k can_save) c steps)
     unfolding machine.on_token mode_of
     token-letters is low =
         record {

@@ -1,4 +1,5 @@
 -- The tokens: what each does is what the definition does.
+use Rattle.std.proofs.Common.{Ok, Err}
 use Prim.Native.Nat.{ℕ, zero, suc, ◌+◌, ◌-◌, ◌*◌, ◌≤◌}
 use mathlib.Core.Path.{◌≡◌, refl, sym, ◌∙◌}
 use mathlib.Core.Bool.{true, false}
@@ -21,14 +22,11 @@ use Rattle.machine.specs.Run as machine
 use Rattle.machine.proofs.Gives.{Gives, gives, unless-gives}
 use Rattle.machine.proofs.Stepped.{given, steps-out, token-steps, local-steps}
 use Rattle.packed.specs.Pool.{range}
-use Rattle.resolve.specs.declared.PreparedStep.{PreparedStep}
-use Rattle.resolve.specs.declared.PreparedStep.TheVariants.{Place, Hypothesis, Frame}
-use Rattle.resolve.specs.declared.PreparedStep.TheVariants as steps
+use Rattle.resolve.specs.Readied.{Readied, Place, Hypothesis, Frame}
 use Rattle.resolve.specs.Resolve.{readied, PreparesToken}
 use Rattle.resolve.proofs.Filing.{filed-indexed, filed-located}
 use Rattle.memory.specs.declared.Counts.{Counts}
-use Rattle.memory.specs.declared.Outcome.{Outcome}
-use Rattle.memory.specs.declared.Outcome.TheVariants.{Go, Refused}
+use Rattle.memory.specs.Outcome.{Outcome}
 use Rattle.memory.specs.Shown.{Bench, Lent, room_of, mark_of, Shown, Ends, refuses}
 use Rattle.memory.proofs.Ending.{ends_by, ends-go, ends-refused}
 use Rattle.spans.specs.declared.Span.{Span}
@@ -41,8 +39,7 @@ use Rattle.engine.specs.Ready.{PushesHypothesis}
 use Rattle.engine.specs.Place.{RunsPlace}
 use Rattle.run.specs.Running.{Env, Tables, tables, Sized, Running, Proceeds, bench_of, lent_of, width_of}
 use Rattle.run.specs.declared.Mode.TheVariants.{Normal}
-use Rattle.run.specs.declared.Read.{Read}
-use Rattle.run.specs.declared.Read.TheVariants as read
+use Rattle.run.specs.Read.{Read, Go, Stop}
 use Rattle.run.specs.Reads.{mode_of, normal}
 use Rattle.run_tokens.specs.Tokens.{normal_step, Lends, with_labels, LabelsStep, ReadsNormal}
 use Rattle.run.proofs.Settling.{settled-go, stopped, keeps-stop, keeps-go, PoolIs, save-pool}
@@ -55,10 +52,10 @@ module _ {e : Env} {t : Tables} {c : Counts} (r : Running e t c) where
       let z = r.sized in
       record { seats = a; froms = b ∙ z.froms; tos = d ∙ z.tos; sets = g ∙ z.sets; ranged = ranged-more more h }
 
-  module _ {token : List ℕ} {mark : Span} (stands : StandsFor e.text (split token).mark mark) {step : PreparedStep}
+  module _ {token : List ℕ} {mark : Span} (stands : StandsFor e.text (split token).mark mark) {step : Readied}
       (prep : PreparesToken e.file e.statements e.asked token e.text t.locals c.locals step) where
     -- the definition's step, by what is prepared
-    named : {s : PreparedStep} (m : Memory) → step ≡ s → Shown (bench_of e) (lent_of t) c m
+    named : {s : Readied} (m : Memory) → step ≡ s → Shown (bench_of e) (lent_of t) c m
         → normal_step (database e.file) e.asked (room_of e.limits) (split token) m
         ≡ bind (readied (database e.file) (room_of e.limits) m s) (run_ready (database e.file) e.asked (room_of e.limits) (mark_of e.text mark.tag mark.end))
     unfolding normal_step
@@ -119,8 +116,8 @@ module _ {e : Env} {t : Tables} {c : Counts} (r : Running e t c) where
         }
 
     -- 26, 28, 25, 29, 30
-    pub token-refused : {why : Refusal} → step ≡ steps.Refused why
-        → Proceeds e t t c (normal_step (database e.file) e.asked (room_of e.limits) (split token)) (Refused why)
+    pub token-refused : {why : Refusal} → step ≡ Err why
+        → Proceeds e t t c (normal_step (database e.file) e.asked (room_of e.limits) (split token)) (Err why)
     unfolding readied bind
     token-refused is =
         record {
@@ -158,7 +155,7 @@ given-it {text} {span = span} stands there gives-it e t m lends shown =
 
 module _ {text stack places locals : List ℕ} {from to : ℕ} {c : Counts} {limit done : ℕ} {span : Span} (stands : StandsFor text (split (range from to text)).local span) where
   -- no local label
-  pub labels-none : span.tag ≡ 0 → LabelsStep text stack places locals from to c limit done places locals (read.Go Normal c done)
+  pub labels-none : span.tag ≡ 0 → LabelsStep text stack places locals from to c limit done places locals (Ok Normal c done)
   unfolding machine.after_step mode_of mark_of give_local
   labels-none nothing =
       let none_is : none ≡ (split (range from to text)).local = rw nothing at stands.is in
@@ -170,7 +167,7 @@ module _ {text stack places locals : List ℕ} {from to : ℕ} {c : Counts} {lim
 
   -- a local label
   module _ {places' locals' : List ℕ} {answer : Outcome} (there : span.tag ≡ 0 → ⊥) (gives-it : GivesLocal text (span.tag - 1) span.end stack locals places c limit locals' places' answer) where
-    pub labels-given : {c' : Counts} → answer ≡ Go c' → LabelsStep text stack places locals from to c limit done places' locals' (read.Go Normal c' done)
+    pub labels-given : {c' : Counts} → answer ≡ Ok c' → LabelsStep text stack places locals from to c limit done places' locals' (Ok Normal c' done)
     unfolding machine.after_step mode_of
     labels-given is =
         record {
@@ -182,7 +179,7 @@ module _ {text stack places locals : List ℕ} {from to : ℕ} {c : Counts} {lim
               settled-go m.steps next Normal w.1 w.2 (steps-out (local-steps (room_of e.limits) m _) w.1 ∙ n);
         }
 
-    pub labels-refused : {why : Refusal} → answer ≡ Refused why → LabelsStep text stack places locals from to c limit done places' locals' (read.Stop why done)
+    pub labels-refused : {why : Refusal} → answer ≡ Err why → LabelsStep text stack places locals from to c limit done places' locals' (Stop why done)
     unfolding machine.after_step
     labels-refused is =
         record {
@@ -202,7 +199,7 @@ module _ {e : Env} {t : Tables} {c : Counts} (r : Running e t c) where
 
   module _ {from to steps : ℕ} where
     -- `?`
-    pub normal-unknown : same (range from to e.text) question ≡ true → ReadsNormal e t t c from to steps (read.Stop ProofIncomplete steps)
+    pub normal-unknown : same (range from to e.text) question ≡ true → ReadsNormal e t t c from to steps (Stop ProofIncomplete steps)
     unfolding machine.on_normal machine.on_parts unless
     normal-unknown is =
         record { keeps = keeps-stop; follows = λ m next n shown. stopped next _ n (rw is refl) }
@@ -210,7 +207,7 @@ module _ {e : Env} {t : Tables} {c : Counts} (r : Running e t c) where
     module _ {t' : Tables} {outcome : Outcome} (known : same (range from to e.text) question ≡ false)
         (ran : Proceeds e t t' c (normal_step (database e.file) e.asked (room_of e.limits) (split (range from to e.text))) outcome) where
       -- the step is refused
-      pub normal-refused : {why : Refusal} → outcome ≡ Refused why → ReadsNormal e t t' c from to steps (read.Stop why steps)
+      pub normal-refused : {why : Refusal} → outcome ≡ Err why → ReadsNormal e t t' c from to steps (Stop why steps)
       unfolding machine.on_normal machine.on_parts unless normal_step
       normal-refused is =
           record {
@@ -219,7 +216,7 @@ module _ {e : Env} {t : Tables} {c : Counts} (r : Running e t c) where
           }
 
       -- it is completed
-      pub normal-ran : {c' : Counts} {places' locals' : List ℕ} {answer : Read} → outcome ≡ Go c'
+      pub normal-ran : {c' : Counts} {places' locals' : List ℕ} {answer : Read} → outcome ≡ Ok c'
           → LabelsStep e.text t'.stack t'.places t'.locals from to c' e.limits.places (steps + 1) places' locals' answer
           → ReadsNormal e t (with_labels t' places' locals') c from to steps answer
       unfolding machine.on_normal machine.on_parts unless normal_step machine.settle

@@ -1,5 +1,5 @@
 -- Reading a token.
-use Rattle.std.specs.Prelude.{ℕ, ◌+◌, ◌≤◌, ◌≡◌, List}
+use Rattle.std.specs.Prelude.{ℕ, ◌+◌, ◌≤◌, ◌≡◌, List, Ok, Err}
 use Rattle.frames.specs.Database.{Database, database}
 use Rattle.machine.specs.Chain.{Result, bind}
 use Rattle.machine.specs.Reading.{Parts, split}
@@ -10,12 +10,10 @@ use Rattle.machine.specs.Run as machine
 use Rattle.packed.specs.Pool.{range}
 use Rattle.memory.specs.declared.Counts.{Counts}
 use Rattle.memory.specs.Shown.{room_of, Shown}
-use Rattle.memory.specs.declared.Outcome.{Outcome}
-use Rattle.memory.specs.declared.Outcome.TheVariants.{Go, Refused}
+use Rattle.memory.specs.Outcome.{Outcome}
 use Rattle.run.specs.declared.Mode.{Mode}
 use Rattle.run.specs.declared.Mode.TheVariants.{Roster}
-use Rattle.run.specs.declared.Read.{Read}
-use Rattle.run.specs.declared.Read.TheVariants as read
+use Rattle.run.specs.Read.{Read, Go, Stop}
 use Rattle.run.specs.Running.{Env, Tables, tables, Sized, width_of, bench_of, lent_of}
 use Rattle.run.specs.Reads.{mode_of, Reads, Keeps}
 
@@ -52,8 +50,8 @@ pub record ReadsNormal (e : Env) (t t' : Tables) (c : Counts) (from to steps : �
 
 -- after what takes places in the roster, which is no step
 unfoldable pub roster_read : Outcome → ℕ → Read
-roster_read (Go c) steps = read.Go Roster c steps
-roster_read (Refused why) steps = read.Stop why steps
+roster_read (Ok c) steps = Ok Roster c steps
+roster_read (Err why) steps = Stop why steps
 
 -- a token is read as the definition reads it in this mode
 pub record ReadsToken (e : Env) (t t' : Tables) (c : Counts) (mode : Mode) (from to steps : ℕ) (answer : Read) : Type 0 where

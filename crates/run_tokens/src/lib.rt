@@ -23,7 +23,7 @@ use frames::numbers::StatementNo;
 use machine::Refusal;
 use memory::{Counts, Limits, Outcome};
 use resolve::{PreparedStep, prepare_step};
-use run::{Mode, Read};
+use run::{Going, Halted, Mode, Read};
 use spans::{is_token, local_span, mark_span};
 
 // One normal step, without its local label: 26, 28, 25, 29 to 38, 43 to 45.
@@ -65,7 +65,7 @@ fn run_token(
         text,
         locals,
         c.locals,
-    ) {
+    )? {
         PreparedStep::Place(k) => run_place(
             file, symbols, statements, text, table, seats, froms, tos, sets, pool, stack, tree,
             places, k, c, limits, mark.tag, mark.end,
@@ -80,7 +80,6 @@ fn run_token(
             file, symbols, statements, a, text, table, seats, froms, tos, sets, pool, stack, tree,
             c, limits, mark.tag, mark.end,
         ),
-        PreparedStep::Refused(why) => Outcome::Refused(why),
     }
 }
 
@@ -103,11 +102,11 @@ fn after_step(
 {
     let local = local_span(text, from, to);
     if local.tag == 0 {
-        return Read::Go {
+        return Ok(Going {
             mode: Mode::Normal,
             counts: c,
             steps: done,
-        };
+        });
     }
     match give_local(
         text,
@@ -119,12 +118,12 @@ fn after_step(
         c,
         limit,
     ) {
-        Outcome::Go(now) => Read::Go {
+        Ok(now) => Ok(Going {
             mode: Mode::Normal,
             counts: now,
             steps: done,
-        },
-        Outcome::Refused(why) => Read::Stop { why, steps: done },
+        }),
+        Err(why) => Err(Halted { why, steps: done }),
     }
 }
 
@@ -159,17 +158,17 @@ fn on_normal(
     ensures { ReadsNormal (env file.now symbols.now statements.now p.0 text.now table.now limits) (tables seats.old froms.old tos.old sets.old numbers.old pool.old stack.old places.old locals.old tree.old) (tables seats.new froms.new tos.new sets.new numbers.new pool.new stack.new places.new locals.new tree.new) c from to steps result }
 {
     if is_token(text, from, to, 63) {
-        return Read::Stop {
+        return Err(Halted {
             why: Refusal::ProofIncomplete,
             steps: steps,
-        };
+        });
     }
     let done = steps + 1;
     match run_token(
         file, symbols, statements, labels, p, text, table, seats, froms, tos, sets, numbers, pool,
         stack, places, locals, tree, from, to, c, limits,
     ) {
-        Outcome::Go(ran) => after_step(
+        Ok(ran) => after_step(
             text,
             stack,
             places,
@@ -180,7 +179,7 @@ fn on_normal(
             limits.places,
             done,
         ),
-        Outcome::Refused(why) => Read::Stop { why, steps },
+        Err(why) => Err(Halted { why, steps }),
     }
 }
 
@@ -189,15 +188,15 @@ fn in_roster(outcome: Outcome, steps: usize) -> Read
     ensures { result ≡ roster_read outcome steps }
 {
     match outcome {
-        Outcome::Go(now) => Read::Go {
+        Ok(now) => Ok(Going {
             mode: Mode::Roster,
             counts: now,
             steps: steps,
-        },
-        Outcome::Refused(because) => Read::Stop {
+        }),
+        Err(because) => Err(Halted {
             why: because,
             steps,
-        },
+        }),
     }
 }
 
@@ -286,14 +285,14 @@ pub fn on_token(
         ),
         Mode::Roster => {
             if is_token(text, from, to, 41) {
-                return Read::Go {
+                return Ok(Going {
                     mode: Mode::Letters {
                         k: 0,
                         can_save: false,
                     },
                     counts: c,
                     steps: steps,
-                };
+                });
             }
             let outcome = prepare_roster(
                 file,
@@ -310,13 +309,13 @@ pub fn on_token(
             );
             in_roster(outcome, steps)
         }
-        Mode::Letters { k, can_save } => Read::Go {
+        Mode::Letters { k, can_save } => Ok(Going {
             mode: Mode::Letters {
                 k: k,
                 can_save: can_save,
             },
             counts: c,
             steps: steps,
-        },
+        }),
     }
 }

@@ -1,5 +1,6 @@
 -- The marks from the bottom up: after some rows, the definition's chain goes on with the entries that are left, and the marks it has seen are those
 -- of the rows passed (`Judged`). Each row passes or is refused as the definition says.
+use Rattle.std.proofs.Common.{Ok, Err}
 use Prim.Native.Nat.{ℕ, ◌+◌, ◌≤◌, ◌<◌}
 use mathlib.Core.Path.{◌≡◌, refl, sym, ap, ◌∙◌}
 use mathlib.Core.Bool.{Bool, true, false}
@@ -17,8 +18,7 @@ use Rattle.machine.specs.Chain.{Result, stop, unless}
 use Rattle.machine.specs.Memory.{Entry, Memory}
 use Rattle.machine.specs.Apply.{names, is_marked, with_mark, marks, check_marks}
 use Rattle.memory.specs.Shown.{Along, ends, next}
-use Rattle.seats.specs.declared.Seated.{Seated}
-use Rattle.seats.specs.declared.Seated.TheVariants.{Done, Refused}
+use Rattle.machine.specs.Passed.{Passed}
 use Rattle.seats.specs.Marks.{row_mark, Checks, bare, once, unknown, twice}
 use Rattle.seats.specs.Seats.{MarkShown, judged, ChecksMarks}
 use Rattle.seats.proofs.Marking.{rows_more, marked-none, marked-some}
@@ -163,12 +163,12 @@ module _ {labels : List (List ℕ)} {text stack : List ℕ} where
         }
 
     -- a row that passes
-    pub judged-more : base ≤ k → Checks labels text stack base k Done → Judged labels text stack base (k + 1) es
+    pub judged-more : base ≤ k → Checks labels text stack base k (Ok tt) → Judged labels text stack base (k + 1) es
     judged-more low (bare e) = judged-bare e
     judged-more low (once e known new) = judged-once low e known new
 
     -- a row that is refused
-    pub judged-stop : {why : Refusal} (rest : Result Memory) → Checks labels text stack base k (Refused why)
+    pub judged-stop : {why : Refusal} (rest : Result Memory) → Checks labels text stack base k (Err why)
         → check_marks labels [] (marks es) rest ≡ stop why
     judged-stop rest (unknown e strange) =
         j.is rest ∙ (ap (λ (ms : List (List ℕ)). check_marks labels j.seen ms rest) (left-marked part e) ∙ check-unknown labels j.seen _ _ rest strange)
@@ -195,7 +195,7 @@ module _ {labels : List (List ℕ)} {text stack : List ℕ} {base to : ℕ} wher
   pub judging-none : base ≤ to → Judging labels text stack base to base
   judging-none h = record { low = omega arith; high = h; judges = λ es shown size. judged-none shown }
 
-  pub judging-more : {k : ℕ} {answer : Seated} → Judging labels text stack base to k → k < to → answer ≡ Done → Checks labels text stack base k answer
+  pub judging-more : {k : ℕ} {answer : Passed} → Judging labels text stack base to k → k < to → answer ≡ (Ok tt) → Checks labels text stack base k answer
       → Judging labels text stack base to (k + 1)
   judging-more {k} j h e check =
       record {
@@ -204,12 +204,12 @@ module _ {labels : List (List ℕ)} {text stack : List ℕ} {base to : ℕ} wher
         judges = λ es shown size. judged-more (j.judges es shown size) (omega arith) j.low (rw e at check);
       }
 
-  pub judging-stop : {k : ℕ} {answer : Seated} {why : Refusal} → Judging labels text stack base to k → k < to → answer ≡ Refused why
-      → Checks labels text stack base k answer → ChecksMarks labels text stack base to (Refused why)
+  pub judging-stop : {k : ℕ} {answer : Passed} {why : Refusal} → Judging labels text stack base to k → k < to → answer ≡ Err why
+      → Checks labels text stack base k answer → ChecksMarks labels text stack base to (Err why)
   unfolding judged
   judging-stop j h e check =
       record { checks = λ es shown size rest. judged-stop (j.judges es shown size) (omega arith) rest (rw e at check) }
 
-  pub judging-done : {k : ℕ} → Judging labels text stack base to k → to ≤ k → ChecksMarks labels text stack base to Done
+  pub judging-done : {k : ℕ} → Judging labels text stack base to k → to ≤ k → ChecksMarks labels text stack base to (Ok tt)
   unfolding judged
   judging-done j h = record { checks = λ es shown size rest. judged-done rest (j.judges es shown size) (omega arith) }

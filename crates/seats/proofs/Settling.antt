@@ -1,5 +1,6 @@
 -- The outcome: no mark at all, a refusal, or the seats filled, each as the definition says; and the labels that the code reads are those of the hypotheses
 -- in the decoded database.
+use Rattle.std.proofs.Common.{Ok, Err}
 use Prim.Native.Nat.{ℕ, ◌+◌, ◌≤◌, ◌<◌}
 use mathlib.Core.Path.{◌≡◌, refl, sym, ap, ap₂, ◌∙◌}
 use mathlib.Core.Option.{none}
@@ -20,8 +21,7 @@ use Rattle.packed.specs.Lists.{Located}
 use Rattle.resolve.specs.Filed.{Filed}
 use Rattle.memory.specs.Table.{word}
 use Rattle.memory.specs.Shown.{Along, ends, next}
-use Rattle.seats.specs.declared.Seated.{Seated}
-use Rattle.seats.specs.declared.Seated.TheVariants.{Done, Refused}
+use Rattle.machine.specs.Passed.{Passed}
 use Rattle.seats.specs.Marks.{label_at, labels_at}
 use Rattle.seats.specs.Seats.{MarkShown, Nth, first, later, SeatShown, judged, ChecksMarks, Fills, InOrder, Seating, Seats}
 use Rattle.seats.proofs.Marking.{mark-none, marked-none, marked-nowhere}
@@ -61,7 +61,7 @@ labels-filed {f} {stmts = stmts} {a} {at} filed loc =
     label-filed h filed (let t = loc.there in omega arith))
 
 -- what is said of the labels that are read is said of the assertion
-pub seats-read : {f stmts : List ℕ} {at : ℕ} {text stack : List ℕ} {base count : ℕ} {seats : List ℕ} {answer : Seated}
+pub seats-read : {f stmts : List ℕ} {at : ℕ} {text stack : List ℕ} {base count : ℕ} {seats : List ℕ} {answer : Passed}
     → ((es : List Entry) → length (labels_at f stmts at) ≡ count → length es ≡ count → Along (MarkShown text stack) base es
     → Seating (labels_at f stmts at) es count seats answer)
     → Seats f stmts at text stack base count seats answer
@@ -75,8 +75,8 @@ seats-read {f} {stmts} {at} read =
 
 module _ {f stmts : List ℕ} {at : ℕ} {text stack : List ℕ} {base count : ℕ} {seats : List ℕ} where
   -- the marks are refused
-  pub seats-refused : {why : Refusal} {answer : Seated} → answer ≡ Refused why → ChecksMarks (labels_at f stmts at) text stack base (base + count) answer
-      → Seats f stmts at text stack base count seats (Refused why)
+  pub seats-refused : {why : Refusal} {answer : Passed} → answer ≡ Err why → ChecksMarks (labels_at f stmts at) text stack base (base + count) answer
+      → Seats f stmts at text stack base count seats (Err why)
   seats-refused {why} e c =
       seats-read
       (λ es listed size all.
@@ -87,8 +87,8 @@ module _ {f stmts : List ℕ} {at : ℕ} {text stack : List ℕ} {base count : �
       })
 
   -- they pass, and the seats are filled
-  pub seats-filled : {answer : Seated} → answer ≡ Done → ChecksMarks (labels_at f stmts at) text stack base (base + count) answer
-      → Fills (labels_at f stmts at) text stack base count seats → Seats f stmts at text stack base count seats Done
+  pub seats-filled : {answer : Passed} → answer ≡ (Ok tt) → ChecksMarks (labels_at f stmts at) text stack base (base + count) answer
+      → Fills (labels_at f stmts at) text stack base count seats → Seats f stmts at text stack base count seats (Ok tt)
   unfolding judged
   seats-filled e c fill =
       seats-read
@@ -131,7 +131,7 @@ check-none labels ms e rest = rw e refl
 
 -- then the entries go to the hypotheses in order
 pub seats-in-order : {f stmts : List ℕ} {at : ℕ} {text stack : List ℕ} {base count : ℕ} {seats : List ℕ}
-    → ((r : ℕ) → base ≤ r → r < base + count → word stack r 3 ≡ 0) → InOrder count seats → Seats f stmts at text stack base count seats Done
+    → ((r : ℕ) → base ≤ r → r < base + count → word stack r 3 ≡ 0) → InOrder count seats → Seats f stmts at text stack base count seats (Ok tt)
 unfolding judged
 seats-in-order {f} {stmts} {at} {text} {stack} bare order =
     seats-read

@@ -1,13 +1,12 @@
 -- The marks of the entries on the stack, read where they lie, and what the searches among them find. Rows are numbered from the bottom of the stack.
-use Rattle.std.specs.Prelude.{ℕ, ◌+◌, ◌≤◌, ◌<◌, ◌≡◌, Bool, true, false, List, map, get_or}
+use Rattle.std.specs.Prelude.{ℕ, ◌+◌, ◌≤◌, ◌<◌, ◌≡◌, Bool, true, false, List, map, get_or, Ok, Err}
 use Rattle.std.proofs.Math.Option.{Option, none, some}
 use Rattle.frames.specs.Database.{statement_at}
 use Rattle.machine.specs.declared.Refusal.TheVariants.{BadExplicitLabel, DuplicateExplicitLabel}
 use Rattle.machine.specs.Apply.{names, is_marked}
 use Rattle.memory.specs.Table.{word}
 use Rattle.memory.specs.Shown.{mark_of}
-use Rattle.seats.specs.declared.Seated.{Seated}
-use Rattle.seats.specs.declared.Seated.TheVariants.{Done, Refused}
+use Rattle.machine.specs.Passed.{Passed}
 use Rattle.seats.specs.declared.arrange.Taken.{Taken}
 
 -- the mark of row k
@@ -40,13 +39,13 @@ pub record NoneMarked (stack : List ℕ) (from to : ℕ) (answer : Bool) : Type 
   pub none : answer ≡ true → (r : ℕ) → from ≤ r → r < to → word stack r 3 ≡ 0
 
 -- the mark of row k passes, or is refused: it is to name one of the hypotheses, and no row from `base` up to k is to have it
-pub data Checks (labels : List (List ℕ)) (text stack : List ℕ) (base k : ℕ) : Seated → Type 0 where
-  bare : row_mark text stack k ≡ none → Checks labels text stack base k Done
+pub data Checks (labels : List (List ℕ)) (text stack : List ℕ) (base k : ℕ) : Passed → Type 0 where
+  bare : row_mark text stack k ≡ none → Checks labels text stack base k (Ok tt)
   once : {m : List ℕ} → row_mark text stack k ≡ some m → names labels m ≡ true
-      → ((r : ℕ) → base ≤ r → r < k → is_marked m (row_mark text stack r) ≡ false) → Checks labels text stack base k Done
-  unknown : {m : List ℕ} → row_mark text stack k ≡ some m → names labels m ≡ false → Checks labels text stack base k (Refused BadExplicitLabel)
+      → ((r : ℕ) → base ≤ r → r < k → is_marked m (row_mark text stack r) ≡ false) → Checks labels text stack base k (Ok tt)
+  unknown : {m : List ℕ} → row_mark text stack k ≡ some m → names labels m ≡ false → Checks labels text stack base k (Err BadExplicitLabel)
   twice : {m : List ℕ} {r : ℕ} → row_mark text stack k ≡ some m → names labels m ≡ true → base ≤ r → r < k
-      → is_marked m (row_mark text stack r) ≡ true → Checks labels text stack base k (Refused DuplicateExplicitLabel)
+      → is_marked m (row_mark text stack r) ≡ true → Checks labels text stack base k (Err DuplicateExplicitLabel)
 
 -- which row takes the seat of the hypothesis with this label: the one marked so, else the first without a mark from `next` on (there is one, since
 -- entries and hypotheses are as many), and from which row on the next one is sought

@@ -1,6 +1,6 @@
 -- Which entry of the stack goes to which hypothesis of an assertion, said of the definition of a run: its refusal, or its entries in the order of
 -- the hypotheses.
-use Rattle.std.specs.Prelude.{ℕ, ◌+◌, ◌<◌, ◌≡◌, List, [], ◌∷◌, map, length, get_or}
+use Rattle.std.specs.Prelude.{ℕ, ◌+◌, ◌<◌, ◌≡◌, List, [], ◌∷◌, map, length, get_or, Ok, Err}
 use Rattle.frames.specs.Database.{database}
 use Rattle.frames.specs.Facts.{statement_of}
 use Rattle.machine.specs.Chain.{Result, stop}
@@ -9,8 +9,7 @@ use Rattle.machine.specs.Apply.{label_of, marks, check_marks, unmarked, arranged
 use Rattle.packed.specs.Lists.{Located}
 use Rattle.resolve.specs.Filed.{Filed}
 use Rattle.memory.specs.Shown.{Along}
-use Rattle.seats.specs.declared.Seated.{Seated}
-use Rattle.seats.specs.declared.Seated.TheVariants.{Done, Refused}
+use Rattle.machine.specs.Passed.{Passed}
 use Rattle.seats.specs.Marks.{row_mark}
 
 -- row k of the stack has this entry's mark
@@ -29,12 +28,12 @@ pub record SeatShown (es : List Entry) (seats : List ℕ) (j : ℕ) (x : Proved)
   pub is : x ≡ entry.proved
 
 -- the definition's result, where `rest` is what follows when nothing is refused
-unfoldable pub judged : Seated → Result Memory → Result Memory
-judged Done rest = rest
-judged (Refused why) rest = stop why
+unfoldable pub judged : Passed → Result Memory → Result Memory
+judged (Ok tt) rest = rest
+judged (Err why) rest = stop why
 
 -- the marks from row `base` up to row `to` are judged as the definition judges them
-pub record ChecksMarks (labels : List (List ℕ)) (text stack : List ℕ) (base to : ℕ) (answer : Seated) : Type 0 where
+pub record ChecksMarks (labels : List (List ℕ)) (text stack : List ℕ) (base to : ℕ) (answer : Passed) : Type 0 where
   pub checks : (es : List Entry) → Along (MarkShown text stack) base es → base + length es ≡ to → (rest : Result Memory)
       → check_marks labels [] (marks es) rest ≡ judged answer rest
 
@@ -49,13 +48,13 @@ pub record InOrder (count : ℕ) (seats : List ℕ) : Type 0 where
 
 -- the entries are judged as the definition judges them; where nothing is refused, there is one for each of the `count` hypotheses, and the seats hold them
 -- in that order
-pub record Seating (labels : List (List ℕ)) (es : List Entry) (count : ℕ) (seats : List ℕ) (answer : Seated) : Type 0 where
+pub record Seating (labels : List (List ℕ)) (es : List Entry) (count : ℕ) (seats : List ℕ) (answer : Passed) : Type 0 where
   pub checks : (rest : Result Memory) → check_marks labels [] (marks es) rest ≡ judged answer rest
-  pub sized : answer ≡ Done → length (arranged labels es (unmarked es)) ≡ count
-  pub holds : answer ≡ Done → Along (SeatShown es seats) 0 (arranged labels es (unmarked es))
+  pub sized : answer ≡ (Ok tt) → length (arranged labels es (unmarked es)) ≡ count
+  pub holds : answer ≡ (Ok tt) → Along (SeatShown es seats) 0 (arranged labels es (unmarked es))
 
 -- the same for the `count` entries from row `base` on and the hypotheses of the assertion at `at`
-pub record Seats (f stmts : List ℕ) (at : ℕ) (text stack : List ℕ) (base count : ℕ) (seats : List ℕ) (answer : Seated) : Type 0 where
+pub record Seats (f stmts : List ℕ) (at : ℕ) (text stack : List ℕ) (base count : ℕ) (seats : List ℕ) (answer : Passed) : Type 0 where
   pub follows : (syms : List ℕ) (a : ℕ) (es : List Entry) → Filed f syms stmts → Located f a at
       → count ≡ length (statement_of (database f) a).hyps → length es ≡ count → Along (MarkShown text stack) base es
       → Seating (map (label_of (database f)) (statement_of (database f) a).hyps) es count seats answer

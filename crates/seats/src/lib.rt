@@ -12,13 +12,6 @@ use crate::arrange::{fill_seats, seat_in_order};
 use crate::marks::{check_marks, none_marked};
 use machine::Refusal;
 
-// Every hypothesis has its entry, or the marks are refused.
-#[derive(Clone, Copy)]
-pub enum Seated {
-    Done,
-    Refused(Refusal),
-}
-
 // Seats the `count` entries from row `base` on: 33 and 34, from the bottom up, else each seat gets the number of its entry, counted from 0.
 pub fn seat_entries(
     file: &[u8],
@@ -29,19 +22,15 @@ pub fn seat_entries(
     base: usize,
     count: usize,
     seats: &mut [u32],
-) -> Seated
+) -> Result<(), Refusal>
     requires { (base ≤ 65536) × ((count ≤ 64) × (64 ≤ length seats.old)) }
     ensures { Seats file.now statements.now at text.now stack.now base count seats.new result }
 {
     if none_marked(stack, base, base + count) {
         seat_in_order(count, seats);
-        return Seated::Done;
+        return Ok(());
     }
-    match check_marks(file, statements, at, text, stack, base, base + count) {
-        Seated::Done => {
-            fill_seats(file, statements, at, text, stack, base, count, seats);
-            Seated::Done
-        }
-        Seated::Refused(why) => Seated::Refused(why),
-    }
+    check_marks(file, statements, at, text, stack, base, base + count)?;
+    fill_seats(file, statements, at, text, stack, base, count, seats);
+    Ok(())
 }

@@ -7,7 +7,6 @@ ghost use Rattle.packed.specs.Pool.{range};
 ghost use Rattle.seats.specs.Marks.{row_mark, labels_at, FirstMarked, FirstUnmarked, NoneMarked, Checks};
 ghost use Rattle.seats.specs.Seats.{ChecksMarks};
 
-use crate::Seated;
 use frames::fields;
 use frames::read::part;
 use frames::text::same_bytes;
@@ -115,23 +114,23 @@ fn check_mark(
     stack: &[u64],
     base: usize,
     k: usize,
-) -> Seated
+) -> Result<(), Refusal>
     requires { (base ≤ k) × (k < 70000) }
     ensures { Checks (labels_at file.now statements.now at) text.now stack.now base k result }
 {
     let tag = word_at(stack, 10 * k + 3) as usize;
     if tag == 0 {
-        return Seated::Done;
+        return Ok(());
     }
     let end = word_at(stack, 10 * k + 4) as usize;
     let mark = span(text, tag - 1, end);
     if names_hypothesis(file, statements, at, mark) {
         if find_marked(text, stack, base, k, mark) < k {
-            return Seated::Refused(Refusal::DuplicateExplicitLabel);
+            return Err(Refusal::DuplicateExplicitLabel);
         }
-        return Seated::Done;
+        return Ok(());
     }
-    Seated::Refused(Refusal::BadExplicitLabel)
+    Err(Refusal::BadExplicitLabel)
 }
 
 // The marks from row `base` up to row `to`, from the bottom up.
@@ -143,20 +142,12 @@ pub fn check_marks(
     stack: &[u64],
     base: usize,
     to: usize,
-) -> Seated
+) -> Result<(), Refusal>
     requires { (base ≤ to) × (to < 70000) }
     ensures { ChecksMarks (labels_at file.now statements.now at) text.now stack.now base to result }
 {
-    let mut k = base;
-    while k < to {
-        match check_mark(file, statements, at, text, stack, base, k) {
-            Seated::Done => {
-                k += 1;
-            }
-            Seated::Refused(why) => {
-                return Seated::Refused(why);
-            }
-        }
+    for k in base..to {
+        check_mark(file, statements, at, text, stack, base, k)?;
     }
-    Seated::Done
+    Ok(())
 }

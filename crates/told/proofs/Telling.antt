@@ -1,4 +1,5 @@
 -- What is told of a proof's answer, and the room that is lent.
+use Rattle.std.proofs.Common.{Err}
 use Prim.Native.Nat.{ℕ, ◌/◌, min}
 use mathlib.Core.List.{List}
 use mathlib.Core.Path.{◌≡◌, refl, sym, ◌∙◌, ap}
@@ -9,8 +10,7 @@ use Rattle.machine.specs.Run.{State}
 use Rattle.memory.specs.declared.Limits.{Limits}
 use Rattle.memory.specs.Shown.{room_of}
 use Rattle.run_bytes.specs.declared.Stopped.{Stopped}
-use Rattle.findings.specs.declared.Answer.{Answer}
-use Rattle.findings.specs.declared.Answer.TheVariants.{Accepted, Refused}
+use Rattle.findings.specs.Answers.{Answer, Accepted}
 use Rattle.findings.specs.Tells.{Tells, accepts, refuses}
 use Rattle.told.specs.declared.Told.{Told}
 use Rattle.told.specs.Says.{Says, SaysAs, room_lent}
@@ -19,7 +19,7 @@ accepted-says : {f entries : List ℕ} {at done word nodes : ℕ} {s : State} �
 unfolding ended number place steps
 accepted-says (accepts few held) = record { number = refl; place = refl; steps = refl }
 
-refused_says : {f entries : List ℕ} {x : Stopped} {n : ℕ} {s : State} → n ≡ refusal_number x.why → Tells f entries s (Refused x)
+refused_says : {f entries : List ℕ} {x : Stopped} {n : ℕ} {s : State} → n ≡ refusal_number x.why → Tells f entries s (Err x)
     → Says (ended s) (record { number = n; place = x.place; steps = x.steps })
 unfolding ended number place steps
 refused_says e refuses = record { number = e; place = refl; steps = refl }
@@ -27,7 +27,7 @@ refused_says e refuses = record { number = e; place = refl; steps = refl }
 pub accepted-told : {at done word nodes : ℕ} → SaysAs (Accepted at done word nodes) (record { number = 0; place = at; steps = done })
 accepted-told = record { says = λ f entries s t. accepted-says t }
 
-pub refused-told : {x : Stopped} {n : ℕ} → n ≡ refusal_number x.why → SaysAs (Refused x) (record { number = n; place = x.place; steps = x.steps })
+pub refused-told : {x : Stopped} {n : ℕ} → n ≡ refusal_number x.why → SaysAs (Err x) (record { number = n; place = x.place; steps = x.steps })
 refused-told e = record { says = λ f entries s t. refused_says e t }
 
 pub room-limited : {a b c : ℕ} (pool stack places : ℕ) → a ≡ min pool 65536 → b ≡ min (stack / 10) 1024 → c ≡ min (places / 10) 4096

@@ -4,7 +4,7 @@ use Rattle.machine.specs.Answer as answers
 use Rattle.machine.specs.Bench.{ended}
 use Rattle.machine.specs.Memory.{Room}
 use Rattle.machine.specs.Run.{State}
-use Rattle.findings.specs.declared.Answer.{Answer}
+use Rattle.findings.specs.Answers.{Answer}
 use Rattle.findings.specs.Tells.{Tells}
 use Rattle.told.specs.declared.Told.{Told}
 

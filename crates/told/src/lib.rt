@@ -24,17 +24,12 @@ pub fn tell(answer: Answer) -> Told
     ensures { SaysAs answer result }
 {
     match answer {
-        Answer::Accepted {
-            place,
-            steps,
-            word,
-            nodes,
-        } => Told {
+        Ok(accepted) => Told {
             number: 0,
-            place: place,
-            steps: steps,
+            place: accepted.place,
+            steps: accepted.steps,
         },
-        Answer::Refused(x) => {
+        Err(x) => {
             let why = x.why;
             let number = refusal_number(why);
             Told {

@@ -1,8 +1,6 @@
 -- The line that tells a verdict, as a list of bytes, and what it is to put a text into a buffer.
-use Rattle.std.specs.Prelude.{ℕ, zero, suc, ◌+◌, ◌/◌, ◌%◌, ◌≡◌, List, [], ◌∷◌, ◌++◌, Bool, true, false, cond, ltb, length, take}
-use Rattle.frames.specs.declared.Verdict.{Verdict}
-use Rattle.frames.specs.declared.Verdict.TheVariants.{Good, Refused}
-use Rattle.frames.specs.Verdict.{number_of}
+use Rattle.std.specs.Prelude.{ℕ, zero, suc, ◌+◌, ◌/◌, ◌%◌, ◌≡◌, List, [], ◌∷◌, ◌++◌, Bool, true, false, cond, ltb, length, take, Ok, Err}
+use Rattle.frames.specs.Verdict.{Verdict, number_of}
 
 -- the decimal digits of a number below 10 ^ fuel, with no zeros in front
 unfoldable pub digits_of : ℕ → ℕ → List ℕ
@@ -27,8 +25,8 @@ refused_line number place = line (114 ∷ 101 ∷ 102 ∷ 117 ∷ 115 ∷ 101 �
 
 -- the line that tells a verdict
 abbrev pub line_of : Verdict → List ℕ
-line_of (Good symbols statements) = good_line symbols statements
-line_of (Refused why place) = refused_line (number_of why) place
+line_of (Ok sizes) = good_line sizes.symbols sizes.statements
+line_of (Err away) = refused_line (number_of away.why) away.place
 
 -- part stands in the buffer right after what stood before the place at, which it keeps; next is the place after it
 pub record Appended (before : List ℕ) (at : ℕ) (part after : List ℕ) (next : ℕ) : Type 0 where

@@ -67,11 +67,8 @@ pub fn put(verdict: Verdict, out: &mut [u8; 64]) -> usize
     ensures out_after { take result out.new ≡ line_of verdict }
 {
     match verdict {
-        Verdict::Good {
-            symbols,
-            statements,
-        } => good(symbols, statements, out),
-        Verdict::Refused { why, place } => refused(frames::number(why), place, out),
+        Ok(sizes) => good(sizes.symbols, sizes.statements, out),
+        Err(away) => refused(frames::number(away.why), away.place, out),
     }
 }
 

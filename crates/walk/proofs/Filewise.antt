@@ -1,27 +1,25 @@
 -- The walk over a file that is turned away, and over a good one.
+use Rattle.std.proofs.Common.{Ok}
 use Prim.Native.Nat.{ℕ}
 use mathlib.Core.Path.{◌≡◌, refl, sym, ◌∙◌, ap}
 use mathlib.Core.List.{List}
-use Rattle.frames.specs.Verdict.{verdict, Checked}
+use Rattle.frames.specs.Verdict.{verdict, Checked, Verdict, Refused, Good}
 use Rattle.frames.specs.Database.{database}
 use Rattle.frames.specs.declared.Refusal.{Refusal}
-use Rattle.frames.specs.declared.Verdict.{Verdict}
-use Rattle.frames.specs.declared.Verdict.TheVariants as verdicts
 use Rattle.machine.specs.Memory.{Room}
-use Rattle.walk.specs.declared.Walked.TheVariants.{Refused, Answered}
-use Rattle.walk.specs.Walk.{walked_of, laid_answers, AllAnswered, WalksFile}
+use Rattle.walk.specs.Walk.{Refused, walked_of, laid_answers, AllAnswered, WalksFile}
 
 module _ {f syms stmts syms' stmts' : List ℕ} {v : Verdict} (ch : Checked f syms stmts syms' stmts' v) where
-  pub walk_refused : {why : Refusal} {at : ℕ} {room : Room} {answers : List ℕ} → v ≡ verdicts.Refused why at
+  pub walk_refused : {why : Refusal} {at : ℕ} {room : Room} {answers : List ℕ} → v ≡ Refused why at
       → WalksFile f room answers answers (Refused why at)
   unfolding walked_of laid_answers
   walk_refused is = record { counts = rw (sym ch.answers ∙ is) refl; lays = rw (sym ch.answers ∙ is) refl }
 
-  pub walk-good : {n k count : ℕ} {room : Room} {answers answers' : List ℕ} → v ≡ verdicts.Good n k
-      → AllAnswered f room answers answers' count → WalksFile f room answers answers' (Answered count)
+  pub walk-good : {n k count : ℕ} {room : Room} {answers answers' : List ℕ} → v ≡ Good n k
+      → AllAnswered f room answers answers' count → WalksFile f room answers answers' (Ok count)
   unfolding walked_of laid_answers
   walk-good is all =
       record {
-        counts = rw (sym ch.answers ∙ is) (ap Answered all.counts);
+        counts = rw (sym ch.answers ∙ is) (ap Ok all.counts);
         lays = rw (sym ch.answers ∙ is) all.lays;
       }

@@ -17,8 +17,7 @@ use Rattle.machine.proofs.Acceptance.{zero-means-derivation}
 use Rattle.answers.specs.Packed.{packed_answer, number_in}
 use Rattle.bench.specs.Calls.{room_in}
 use Rattle.bench.proofs.Small.{Small, answer-small}
-use Rattle.walk.specs.declared.Walked.{Walked}
-use Rattle.walk.specs.Walk.{provable, word_of, answer_word, answer_words, laid_answers, WalksAll}
+use Rattle.walk.specs.Walk.{Walked, provable, word_of, answer_word, answer_words, laid_answers, WalksAll}
 
 -- all that a caller has after the call
 pub record Outcome : Type 0 where

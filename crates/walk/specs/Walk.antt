@@ -1,19 +1,20 @@
 -- The walk over all $p of a file: what it answers, and where the answers are laid.
-use Rattle.std.specs.Prelude.{ℕ, zero, suc, ◌+◌, ◌≡◌, List, [], map, length, take, set}
+use Rattle.std.specs.Prelude.{ℕ, zero, suc, ◌+◌, ◌≡◌, List, [], map, length, take, set, Result, Ok, Err}
 use Rattle.bitset.specs.Sets.{keep}
 use Rattle.frames.specs.Logic.{equal, below, both, pick}
-use Rattle.frames.specs.Verdict.{verdict, laid}
+use Rattle.frames.specs.Verdict.{verdict, laid, Verdict}
 use Rattle.frames.specs.Database.{Database, database}
 use Rattle.frames.specs.Facts.{statement_of}
-use Rattle.frames.specs.declared.Verdict.{Verdict}
-use Rattle.frames.specs.declared.Verdict.TheVariants as verdicts
+use Rattle.frames.specs.declared.TurnedAway.{TurnedAway}
 use Rattle.machine.specs.Answer.{Answer, number, place, steps}
 use Rattle.machine.specs.Bench.{answer}
 use Rattle.machine.specs.Memory.{Room}
 use Rattle.answers.specs.Packed.{packed_answer}
 use Rattle.bench.specs.Calls.{room_in, Zeroed}
-use Rattle.walk.specs.declared.Walked.{Walked}
-use Rattle.walk.specs.declared.Walked.TheVariants.{Refused, Answered}
+
+-- how many $p are answered, or why and where the file is turned away
+abbrev pub Walked : Type 0
+Walked = Result ℕ TurnedAway
 
 -- the numbers of the $p among the k statements from n on, in file order
 unfoldable pub provable_from : Database → ℕ → ℕ → List ℕ
@@ -38,13 +39,13 @@ answer_words f room = map (answer_word f room) (provable (database f))
 
 -- a good file: how many $p it has; a file that is turned away: why and where
 unfoldable pub walked_of : Verdict → Database → Walked
-walked_of (verdicts.Good symbols statements) db = Answered (length (provable db))
-walked_of (verdicts.Refused why place) db = Refused why place
+walked_of (Ok sizes) db = Ok (length (provable db))
+walked_of (Err away) db = Err away
 
 -- the answers at the front of what was lent for them, as many as there is room for; nothing where the file is turned away
 unfoldable pub laid_answers : Verdict → (words answers : List ℕ) → List ℕ
-laid_answers (verdicts.Good symbols statements) words answers = laid (take (length answers) words) answers
-laid_answers (verdicts.Refused why place) words answers = answers
+laid_answers (Ok sizes) words answers = laid (take (length answers) words) answers
+laid_answers (Err away) words answers = answers
 
 -- each $p is answered as the call for one statement answers it
 pub record WalksFile (f : List ℕ) (room : Room) (answers answers' : List ℕ) (walked : Walked) : Type 0 where

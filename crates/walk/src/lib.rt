@@ -13,17 +13,13 @@ use answers::pack;
 use clearing::{clear_bytes, clear_words64};
 use filecheck::check;
 use frames::numbers::StatementNo;
-use frames::{Refusal, Verdict, fields};
+use frames::{TurnedAway, fields};
 use label_index::fill;
 use proving::statement::answer_statement;
 use proving::{hypothesis_seats, image_sets, label_words, local_labels, offsets, pair_sets};
 
-// The file is turned away, or all its $p are answered: so many.
-#[derive(Clone, Copy)]
-pub enum Walked {
-    Refused { why: Refusal, place: usize },
-    Answered(usize),
-}
+// All $p of a file are answered, so many; or the file is turned away.
+pub type Walked = Result<usize, TurnedAway>;
 
 // Statement p: where it is a $p, its answer is laid at `count`, if there is room, and it is counted.
 fn answer_next(
@@ -169,21 +165,16 @@ fn walk_file(
 {
     let mut symbols = offsets();
     let mut statements = offsets();
-    match check(file, &mut symbols, &mut statements) {
-        Verdict::Refused { why, place } => Walked::Refused { why, place },
-        Verdict::Good {
-            symbols: n,
-            statements: k,
-        } => Walked::Answered(walk_checked(
-            file,
-            &symbols[..n],
-            &statements[..k],
-            pool,
-            stack,
-            places,
-            answers,
-        )),
-    }
+    let sizes = check(file, &mut symbols, &mut statements)?;
+    Ok(walk_checked(
+        file,
+        &symbols[..sizes.symbols],
+        &statements[..sizes.statements],
+        pool,
+        stack,
+        places,
+        answers,
+    ))
 }
 
 // All $p of a file: the file is checked once, each $p is answered in file order as `bench::verify` would answer it, and all that was lent is cleared.

@@ -3,22 +3,22 @@ use Rattle.bench.proofs.Checking.{symbols-fit, symbols-length, statements-fit, s
 use Rattle.bench.proofs.verify_file.Goals as goal
 
 pub slice_bounds-symbols-end : goal.slice_bounds-symbols-end
-slice_bounds-symbols-end c = symbols-fit c.check.ensures c.in-Good.is c.offsets-symbols.ensures
+slice_bounds-symbols-end c = symbols-fit c.check.ensures c.in-Ok.is c.offsets-symbols.ensures
 
 pub slice_bounds-verify_checked-end : goal.slice_bounds-verify_checked-end
-slice_bounds-verify_checked-end c = symbols-length c.check.ensures c.in-Good.is
+slice_bounds-verify_checked-end c = symbols-length c.check.ensures c.in-Ok.is
 
 pub slice_bounds-statements-end : goal.slice_bounds-statements-end
-slice_bounds-statements-end c = statements-fit c.check.ensures c.in-Good.is c.offsets-statements.ensures
+slice_bounds-statements-end c = statements-fit c.check.ensures c.in-Ok.is c.offsets-statements.ensures
 
-pub slice_bounds-verify_checked-end-in-Good : goal.slice_bounds-verify_checked-end-in-Good
-slice_bounds-verify_checked-end-in-Good c = statements-length c.check.ensures c.in-Good.is
+pub slice_bounds-verify_checked-end-in-Ok : goal.slice_bounds-verify_checked-end-in-Ok
+slice_bounds-verify_checked-end-in-Ok c = statements-length c.check.ensures c.in-Ok.is
 
 pub verify_checked-requires : goal.verify_checked-requires
-verify_checked-requires c = filed c.check.ensures c.in-Good.is
+verify_checked-requires c = filed c.check.ensures c.in-Ok.is
 
-pub returns-in-Refused : goal.returns-in-Refused
-returns-in-Refused c = refused_says c.check.ensures _ _ c.in-Refused.is c.number.ensures
+pub returns-in-Err : goal.returns-in-Err
+returns-in-Err c = refused_says c.check.ensures _ _ c.in-Err.is c.number.ensures
 
-pub returns-in-Good : goal.returns-in-Good
-returns-in-Good c = good-says c.check.ensures c.in-Good.is _ _ c.verify_checked.ensures
+pub returns-in-Ok : goal.returns-in-Ok
+returns-in-Ok c = good-says c.check.ensures c.in-Ok.is _ _ c.verify_checked.ensures

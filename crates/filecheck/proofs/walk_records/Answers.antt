@@ -24,20 +24,20 @@ returns-then-len-at c = let a = c.args in let l = c.loop-st in walking-ends a.fi
 pub judge-requires : goal.judge-requires
 judge-requires c = let a = c.args in let l = c.loop-st in let s = symbols-length a.file.now a.symbols.now a.statements.now l.symbols l.statements l.st l.invariant c.requires.1.0 in let t = statements-length a.file.now a.symbols.now a.statements.now l.symbols l.statements l.st l.invariant c.requires.1.1 in (omega arith, omega arith)
 
-pub shape_of-symbols-in-Is : goal.shape_of-symbols-in-Is
-shape_of-symbols-in-Is c = let a = c.args in let l = c.loop-st in symbols-length a.file.now a.symbols.now a.statements.now l.symbols l.statements l.st l.invariant c.requires.1.0
+pub shape_of-symbols-in-Some : goal.shape_of-symbols-in-Some
+shape_of-symbols-in-Some c = let a = c.args in let l = c.loop-st in symbols-length a.file.now a.symbols.now a.statements.now l.symbols l.statements l.st l.invariant c.requires.1.0
 
-pub shape_of-statements-in-Is : goal.shape_of-statements-in-Is
-shape_of-statements-in-Is c = let a = c.args in let l = c.loop-st in statements-length a.file.now a.symbols.now a.statements.now l.symbols l.statements l.st l.invariant c.requires.1.1
+pub shape_of-statements-in-Some : goal.shape_of-statements-in-Some
+shape_of-statements-in-Some c = let a = c.args in let l = c.loop-st in statements-length a.file.now a.symbols.now a.statements.now l.symbols l.statements l.st l.invariant c.requires.1.1
 
-pub returns-in-Is : goal.returns-in-Is
-returns-in-Is c = let a = c.args in let l = c.loop-st in walking-stops a.file.now a.symbols.now a.statements.now l.symbols l.statements l.st l.invariant c.if-len-at.false c.in-Is.why (sym c.in-Is.is ∙ c.judge.ensures)
+pub returns-in-Some : goal.returns-in-Some
+returns-in-Some c = let a = c.args in let l = c.loop-st in walking-stops a.file.now a.symbols.now a.statements.now l.symbols l.statements l.st l.invariant c.if-len-at.false c.in-Some.why (sym c.in-Some.is ∙ c.judge.ensures)
 
 pub advance-st-requires : goal.advance-st-requires
-advance-st-requires c = let a = c.args in let l = c.loop-st in let n = next-inside a.file.now a.symbols.now a.statements.now l.symbols l.statements l.st l.invariant (sym c.in-Fine.is ∙ c.judge.ensures) in let v = l.invariant in (omega (arith, v), (omega (arith, v), omega arith))
+advance-st-requires c = let a = c.args in let l = c.loop-st in let n = next-inside a.file.now a.symbols.now a.statements.now l.symbols l.statements l.st l.invariant (sym c.in-None.is ∙ c.judge.ensures) in let v = l.invariant in (omega (arith, v), (omega (arith, v), omega arith))
 
 pub loop-st-smaller : goal.loop-st-smaller
-loop-st-smaller c = let a = c.args in let l = c.loop-st in let n = next-further a.file.now a.symbols.now a.statements.now l.symbols l.statements l.st l.invariant (sym c.in-Fine.is ∙ c.judge.ensures) in let e = c.advance-st.ensures.at_next in let i = c.if-len-at.false in omega arith
+loop-st-smaller c = let a = c.args in let l = c.loop-st in let n = next-further a.file.now a.symbols.now a.statements.now l.symbols l.statements l.st l.invariant (sym c.in-None.is ∙ c.judge.ensures) in let e = c.advance-st.ensures.at_next in let i = c.if-len-at.false in omega arith
 
 pub loop-st-preserved : goal.loop-st-preserved
-loop-st-preserved c = let a = c.args in let l = c.loop-st in walking-more a.file.now a.symbols.now a.statements.now l.symbols l.statements l.st l.invariant c.requires.1.0 c.requires.1.1 c.if-len-at.false (sym c.in-Fine.is ∙ c.judge.ensures) _ _ _ c.advance-st.ensures
+loop-st-preserved c = let a = c.args in let l = c.loop-st in walking-more a.file.now a.symbols.now a.statements.now l.symbols l.statements l.st l.invariant c.requires.1.0 c.requires.1.1 c.if-len-at.false (sym c.in-None.is ∙ c.judge.ensures) _ _ _ c.advance-st.ensures

@@ -3,9 +3,9 @@ use Rattle.findings.specs.Tells.{answer_of}
 use Rattle.findings.proofs.Finishing.{closes-end, closes-refused}
 use Rattle.findings.proofs.finish.Goals as goal
 
-pub returns-in-Refused : goal.returns-in-Refused
+pub returns-in-Err : goal.returns-in-Err
 unfolding answer_of
-returns-in-Refused c = rw c.settled.ensures (closes-refused (rw c.in-Refused.is at c.check_mode.ensures))
+returns-in-Err c = rw c.settled.ensures (closes-refused (rw c.in-Err.is at c.check_mode.ensures))
 
-pub returns-in-Accepted : goal.returns-in-Accepted
-returns-in-Accepted c = rw c.settled-in-Accepted.ensures (closes-end c.word_at-word.ensures (rw c.in-Accepted.is at c.check_mode.ensures) c.check_end.ensures)
+pub returns-in-Ok : goal.returns-in-Ok
+returns-in-Ok c = rw c.settled-in-Ok.ensures (closes-end c.word_at-word.ensures (rw c.in-Ok.is at c.check_mode.ensures) c.check_end.ensures)

@@ -6,9 +6,7 @@ use native.Mathlib.Omega.{arith}
 use borrow.Author.Tests.{lt-ltb, le-ltb}
 use lib.ListN.{length}
 use Rattle.frames.specs.declared.Refusal.TheVariants.{TooMany}
-use Rattle.frames.specs.declared.Verdict.{Verdict}
-use Rattle.frames.specs.declared.Verdict.TheVariants.{Refused}
-use Rattle.frames.specs.Verdict.{verdict}
+use Rattle.frames.specs.Verdict.{Verdict, Refused, verdict}
 use Rattle.framecheck.specs.Program.{answer_of}
 use Rattle.framecheck.proofs.answer.Goals as goal
 

@@ -3,9 +3,7 @@ use Prim.Native.Nat.{ℕ}
 use mathlib.Core.Path.{◌≡◌, ap, sym, ◌∙◌}
 use mathlib.Core.List.{[], ◌∷◌}
 use Rattle.frames.specs.declared.Refusal.{Refusal}
-use Rattle.frames.specs.declared.Verdict.{Verdict}
-use Rattle.frames.specs.declared.Verdict.TheVariants.{Good, Refused}
-use Rattle.frames.specs.Verdict.{number_of}
+use Rattle.frames.specs.Verdict.{Verdict, Good, Refused, number_of}
 use Rattle.frames_c.specs.Answer.{answer_of}
 use Rattle.frames_c.proofs.answer_of.Goals as goal
 
@@ -17,8 +15,8 @@ refused-answer : (v : Verdict) (why : Refusal) (place n : ℕ) → v ≡ Refused
 unfolding answer_of
 refused-answer v why place n e m = ap (λ (k : ℕ). k ∷ place ∷ 0 ∷ []) m ∙ ap answer_of (sym e)
 
-pub returns-in-Good : goal.returns-in-Good
-returns-in-Good c = good-answer _ _ _ c.in-Good.is
+pub returns-in-Ok : goal.returns-in-Ok
+returns-in-Ok c = good-answer _ _ _ c.in-Ok.is
 
-pub returns-in-Refused : goal.returns-in-Refused
-returns-in-Refused c = refused-answer _ _ _ _ c.in-Refused.is c.number.ensures
+pub returns-in-Err : goal.returns-in-Err
+returns-in-Err c = refused-answer _ _ _ _ c.in-Err.is c.number.ensures

@@ -2,8 +2,8 @@
 use Rattle.lines.proofs.Extending.{extends-full, extends-to}
 use Rattle.lines.proofs.then_text.Goals as goal
 
-pub returns-in-To : goal.returns-in-To
-returns-in-To c = rw c.in-To.is (extends-to c.add_text.ensures)
+pub returns-in-Some : goal.returns-in-Some
+returns-in-Some c = rw c.in-Some.is (extends-to c.add_text.ensures)
 
-pub returns-in-Full : goal.returns-in-Full
-returns-in-Full c = rw c.in-Full.is (extends-full _ _)
+pub returns-in-None : goal.returns-in-None
+returns-in-None c = rw c.in-None.is (extends-full _ _)

@@ -5,22 +5,22 @@ use Rattle.long.proofs.Answering.{good-long, turned-long}
 use Rattle.long.proofs.long_file.Goals as goal
 
 pub slice_bounds-symbols-end : goal.slice_bounds-symbols-end
-slice_bounds-symbols-end c = symbols-fit c.check.ensures c.in-Good.is c.offsets-symbols.ensures
+slice_bounds-symbols-end c = symbols-fit c.check.ensures c.in-Ok.is c.offsets-symbols.ensures
 
 pub slice_bounds-long_statement-end : goal.slice_bounds-long_statement-end
-slice_bounds-long_statement-end c = symbols-length c.check.ensures c.in-Good.is
+slice_bounds-long_statement-end c = symbols-length c.check.ensures c.in-Ok.is
 
 pub slice_bounds-statements-end : goal.slice_bounds-statements-end
-slice_bounds-statements-end c = statements-fit c.check.ensures c.in-Good.is c.offsets-statements.ensures
+slice_bounds-statements-end c = statements-fit c.check.ensures c.in-Ok.is c.offsets-statements.ensures
 
-pub slice_bounds-long_statement-end-in-Good : goal.slice_bounds-long_statement-end-in-Good
-slice_bounds-long_statement-end-in-Good c = statements-length c.check.ensures c.in-Good.is
+pub slice_bounds-long_statement-end-in-Ok : goal.slice_bounds-long_statement-end-in-Ok
+slice_bounds-long_statement-end-in-Ok c = statements-length c.check.ensures c.in-Ok.is
 
 pub long_statement-requires : goal.long_statement-requires
-long_statement-requires c = record { filed = filed c.check.ensures c.in-Good.is; entries = omega (arith, c.requires) }
+long_statement-requires c = record { filed = filed c.check.ensures c.in-Ok.is; entries = omega (arith, c.requires) }
 
-pub returns-in-Refused : goal.returns-in-Refused
-returns-in-Refused c = turned-long _ _ c.check.ensures _ _ c.in-Refused.is c.number.ensures
+pub returns-in-Err : goal.returns-in-Err
+returns-in-Err c = turned-long _ _ c.check.ensures _ _ c.in-Err.is c.number.ensures
 
-pub returns-in-Good : goal.returns-in-Good
-returns-in-Good c = good-long _ _ c.check.ensures _ _ c.in-Good.is _ c.long_statement.ensures
+pub returns-in-Ok : goal.returns-in-Ok
+returns-in-Ok c = good-long _ _ c.check.ensures _ _ c.in-Ok.is _ c.long_statement.ensures

@@ -4,16 +4,16 @@ use Rattle.long_lines.proofs.Checks.{taken-good}
 use Rattle.long_lines.proofs.write_reply.Goals as goal
 
 pub slice_bounds-symbols-end : goal.slice_bounds-symbols-end
-slice_bounds-symbols-end c = symbols-fit (taken-good c.check_input.ensures c.in-Good.is) c.in-Good.is c.offsets-symbols.ensures
+slice_bounds-symbols-end c = symbols-fit (taken-good c.check_input.ensures c.in-Ok.is) c.in-Ok.is c.offsets-symbols.ensures
 
 pub slice_bounds-write_lines-end : goal.slice_bounds-write_lines-end
-slice_bounds-write_lines-end c = symbols-length (taken-good c.check_input.ensures c.in-Good.is) c.in-Good.is
+slice_bounds-write_lines-end c = symbols-length (taken-good c.check_input.ensures c.in-Ok.is) c.in-Ok.is
 
 pub slice_bounds-statements-end : goal.slice_bounds-statements-end
-slice_bounds-statements-end c = statements-fit (taken-good c.check_input.ensures c.in-Good.is) c.in-Good.is c.offsets-statements.ensures
+slice_bounds-statements-end c = statements-fit (taken-good c.check_input.ensures c.in-Ok.is) c.in-Ok.is c.offsets-statements.ensures
 
-pub slice_bounds-write_lines-end-in-Good : goal.slice_bounds-write_lines-end-in-Good
-slice_bounds-write_lines-end-in-Good c = statements-length (taken-good c.check_input.ensures c.in-Good.is) c.in-Good.is
+pub slice_bounds-write_lines-end-in-Ok : goal.slice_bounds-write_lines-end-in-Ok
+slice_bounds-write_lines-end-in-Ok c = statements-length (taken-good c.check_input.ensures c.in-Ok.is) c.in-Ok.is
 
 pub write_lines-requires : goal.write_lines-requires
-write_lines-requires c = filed (taken-good c.check_input.ensures c.in-Good.is) c.in-Good.is
+write_lines-requires c = filed (taken-good c.check_input.ensures c.in-Ok.is) c.in-Ok.is

@@ -3,10 +3,10 @@ use mathlib.Core.Path.{ap, sym}
 use Rattle.packed_calls.specs.Answers.{number_of}
 use Rattle.packed_calls.proofs.number.Goals as goal
 
-pub returns-in-To : goal.returns-in-To
+pub returns-in-Some : goal.returns-in-Some
 unfolding number_of
-returns-in-To c = ap number_of (sym c.in-To.is)
+returns-in-Some c = ap number_of (sym c.in-Some.is)
 
-pub returns-in-Full : goal.returns-in-Full
+pub returns-in-None : goal.returns-in-None
 unfolding number_of
-returns-in-Full c = ap number_of (sym c.in-Full.is)
+returns-in-None c = ap number_of (sym c.in-None.is)

@@ -2,8 +2,8 @@
 use Rattle.reply.proofs.Whole.{counted-some, counted_none}
 use Rattle.reply.proofs.how_many.Goals as goal
 
-pub returns-in-Answered : goal.returns-in-Answered
-returns-in-Answered c = counted-some c.in-Answered.is
+pub returns-in-Ok : goal.returns-in-Ok
+returns-in-Ok c = counted-some c.in-Ok.is
 
-pub returns-in-Refused : goal.returns-in-Refused
-returns-in-Refused c = counted_none c.in-Refused.is
+pub returns-in-Err : goal.returns-in-Err
+returns-in-Err c = counted_none c.in-Err.is

@@ -4,16 +4,16 @@ use Rattle.reply.proofs.Whole.{text-refused, text-good, listed}
 use Rattle.reply.proofs.reply_file.Goals as goal
 
 pub slice_bounds-statements-end : goal.slice_bounds-statements-end
-slice_bounds-statements-end c = statements-fit c.check.ensures c.in-Good.is c.offsets-statements.ensures
+slice_bounds-statements-end c = statements-fit c.check.ensures c.in-Ok.is c.offsets-statements.ensures
 
 pub slice_bounds-reply_good-end : goal.slice_bounds-reply_good-end
-slice_bounds-reply_good-end c = statements-length c.check.ensures c.in-Good.is
+slice_bounds-reply_good-end c = statements-length c.check.ensures c.in-Ok.is
 
 pub reply_good-requires : goal.reply_good-requires
-reply_good-requires c = listed c.check.ensures c.in-Good.is
+reply_good-requires c = listed c.check.ensures c.in-Ok.is
 
-pub returns-in-Refused : goal.returns-in-Refused
-returns-in-Refused c = text-refused c.check.ensures c.in-Refused.is c.number.ensures c.put_refused.ensures
+pub returns-in-Err : goal.returns-in-Err
+returns-in-Err c = text-refused c.check.ensures c.in-Err.is c.number.ensures c.put_refused.ensures
 
-pub returns-in-Good : goal.returns-in-Good
-returns-in-Good c = text-good c.check.ensures c.in-Good.is c.reply_good.ensures
+pub returns-in-Ok : goal.returns-in-Ok
+returns-in-Ok c = text-good c.check.ensures c.in-Ok.is c.reply_good.ensures

@@ -6,11 +6,11 @@ use Rattle.resolve.proofs.is_ambiguous.Goals as goal
 pub find_named-requires : goal.find_named-requires
 find_named-requires c = c.requires.labelled
 
-pub returns-in-Statement : goal.returns-in-Statement
-returns-in-Statement c = let a = c.args in tells-ambiguous a.file.now a.statements.now a.token.now (sym c.has_local.ensures ∙ c.if-has_local.true) c.local_label-local.ensures c.find_named.ensures c.in-Statement.is
+pub returns-in-Some : goal.returns-in-Some
+returns-in-Some c = let a = c.args in tells-ambiguous a.file.now a.statements.now a.token.now (sym c.has_local.ensures ∙ c.if-has_local.true) c.local_label-local.ensures c.find_named.ensures c.in-Some.is
 
-pub returns-in-NoStatement : goal.returns-in-NoStatement
-returns-in-NoStatement c = let a = c.args in tells-new a.file.now a.statements.now a.token.now (sym c.has_local.ensures ∙ c.if-has_local.true) c.local_label-local.ensures c.find_named.ensures c.in-NoStatement.is
+pub returns-in-None : goal.returns-in-None
+returns-in-None c = let a = c.args in tells-new a.file.now a.statements.now a.token.now (sym c.has_local.ensures ∙ c.if-has_local.true) c.local_label-local.ensures c.find_named.ensures c.in-None.is
 
 pub returns : goal.returns
 returns c = let a = c.args in tells_none a.file.now a.statements.now a.token.now (sym c.has_local.ensures ∙ c.if-has_local.false)

@@ -5,8 +5,8 @@ use Rattle.resolve.proofs.prepare_label.Goals as goal
 pub find_label-requires : goal.find_label-requires
 find_label-requires c = c.requires
 
-pub returns-in-Statement : goal.returns-in-Statement
-returns-in-Statement c = label-named c.find_label.ensures c.in-Statement.is c.prepare_statement.ensures
+pub returns-in-Some : goal.returns-in-Some
+returns-in-Some c = label-named c.find_label.ensures c.in-Some.is c.prepare_statement.ensures
 
-pub returns-in-NoStatement : goal.returns-in-NoStatement
-returns-in-NoStatement c = label-missing c.find_label.ensures c.in-NoStatement.is
+pub returns-in-None : goal.returns-in-None
+returns-in-None c = label-missing c.find_label.ensures c.in-None.is

@@ -12,8 +12,8 @@ returns-then-is_ambiguous c = let a = c.args in token-ambiguous a.p.0 a.text.now
 pub find_label-requires : goal.find_label-requires
 find_label-requires c = c.requires.labelled
 
-pub returns-in-Statement : goal.returns-in-Statement
-returns-in-Statement c = let a = c.args in token-named a.p.0 a.text.now a.locals.now a.count c.is_ambiguous.ensures c.if-is_ambiguous.false c.label-label.ensures c.find_label.ensures c.in-Statement.is c.prepare_statement.ensures
+pub returns-in-Some : goal.returns-in-Some
+returns-in-Some c = let a = c.args in token-named a.p.0 a.text.now a.locals.now a.count c.is_ambiguous.ensures c.if-is_ambiguous.false c.label-label.ensures c.find_label.ensures c.in-Some.is c.prepare_statement.ensures
 
-pub returns-in-NoStatement : goal.returns-in-NoStatement
-returns-in-NoStatement c = let a = c.args in token-local a.p.0 a.text.now a.locals.now a.count c.is_ambiguous.ensures c.if-is_ambiguous.false c.label-label.ensures c.find_label.ensures c.in-NoStatement.is c.has_local.ensures c.prepare_local.ensures
+pub returns-in-None : goal.returns-in-None
+returns-in-None c = let a = c.args in token-local a.p.0 a.text.now a.locals.now a.count c.is_ambiguous.ensures c.if-is_ambiguous.false c.label-label.ensures c.find_label.ensures c.in-None.is c.has_local.ensures c.prepare_local.ensures

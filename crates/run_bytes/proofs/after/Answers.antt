@@ -2,8 +2,8 @@
 use Rattle.run_bytes.proofs.Byting.{after-go, after_stop}
 use Rattle.run_bytes.proofs.after.Goals as goal
 
-pub returns-in-Go : goal.returns-in-Go
-returns-in-Go c = rw c.in-Go.is after-go
+pub returns-in-Ok : goal.returns-in-Ok
+returns-in-Ok c = rw c.in-Ok.is after-go
 
-pub returns-in-Stop : goal.returns-in-Stop
-returns-in-Stop c = rw c.in-Stop.is after_stop
+pub returns-in-Err : goal.returns-in-Err
+returns-in-Err c = rw c.in-Err.is after_stop

@@ -12,35 +12,35 @@ loop-i-init c = so-far-none c.requires.running c.requires.low.0.0 c.requires.low
 pub on_byte-requires : goal.on_byte-requires
 on_byte-requires c = let v = c.loop-i.invariant in let f = v.running.checked.text_few in record { labelled = c.requires.labelled; running = v.running; low = ((v.low, omega (arith, v.few, v.within)), (v.begun, c.loop-i-test.true)) }
 
-pub shape_of-seats-in-Over : goal.shape_of-seats-in-Over
-shape_of-seats-in-Over c = c.seats-1.given ∙ c.loop-i.invariant.sizes.seats
+pub shape_of-seats-in-Err : goal.shape_of-seats-in-Err
+shape_of-seats-in-Err c = c.seats-1.given ∙ c.loop-i.invariant.sizes.seats
 
-pub shape_of-froms-in-Over : goal.shape_of-froms-in-Over
-shape_of-froms-in-Over c = c.froms-1.given ∙ c.loop-i.invariant.sizes.froms
+pub shape_of-froms-in-Err : goal.shape_of-froms-in-Err
+shape_of-froms-in-Err c = c.froms-1.given ∙ c.loop-i.invariant.sizes.froms
 
-pub shape_of-tos-in-Over : goal.shape_of-tos-in-Over
-shape_of-tos-in-Over c = c.tos-1.given ∙ c.loop-i.invariant.sizes.tos
+pub shape_of-tos-in-Err : goal.shape_of-tos-in-Err
+shape_of-tos-in-Err c = c.tos-1.given ∙ c.loop-i.invariant.sizes.tos
 
-pub shape_of-sets-in-Over : goal.shape_of-sets-in-Over
-shape_of-sets-in-Over c = c.sets-1.given ∙ c.loop-i.invariant.sizes.sets
+pub shape_of-sets-in-Err : goal.shape_of-sets-in-Err
+shape_of-sets-in-Err c = c.sets-1.given ∙ c.loop-i.invariant.sizes.sets
 
-pub shape_of-numbers-in-Over : goal.shape_of-numbers-in-Over
-shape_of-numbers-in-Over c = c.numbers-1.given ∙ c.loop-i.invariant.sizes.numbers
+pub shape_of-numbers-in-Err : goal.shape_of-numbers-in-Err
+shape_of-numbers-in-Err c = c.numbers-1.given ∙ c.loop-i.invariant.sizes.numbers
 
-pub shape_of-pool-in-Over : goal.shape_of-pool-in-Over
-shape_of-pool-in-Over c = c.pool-1.given ∙ c.loop-i.invariant.sizes.pool
+pub shape_of-pool-in-Err : goal.shape_of-pool-in-Err
+shape_of-pool-in-Err c = c.pool-1.given ∙ c.loop-i.invariant.sizes.pool
 
-pub shape_of-stack-in-Over : goal.shape_of-stack-in-Over
-shape_of-stack-in-Over c = c.stack-1.given ∙ c.loop-i.invariant.sizes.stack
+pub shape_of-stack-in-Err : goal.shape_of-stack-in-Err
+shape_of-stack-in-Err c = c.stack-1.given ∙ c.loop-i.invariant.sizes.stack
 
-pub shape_of-places-in-Over : goal.shape_of-places-in-Over
-shape_of-places-in-Over c = c.places-1.given ∙ c.loop-i.invariant.sizes.places
+pub shape_of-places-in-Err : goal.shape_of-places-in-Err
+shape_of-places-in-Err c = c.places-1.given ∙ c.loop-i.invariant.sizes.places
 
-pub shape_of-locals-in-Over : goal.shape_of-locals-in-Over
-shape_of-locals-in-Over c = c.locals-1.given ∙ c.loop-i.invariant.sizes.locals
+pub shape_of-locals-in-Err : goal.shape_of-locals-in-Err
+shape_of-locals-in-Err c = c.locals-1.given ∙ c.loop-i.invariant.sizes.locals
 
-pub returns-in-Over : goal.returns-in-Over
-returns-in-Over c = so-far-over c.loop-i.invariant c.loop-i-test.true refl (rw c.in-Over.is at c.on_byte.ensures)
+pub returns-in-Err : goal.returns-in-Err
+returns-in-Err c = so-far-over c.loop-i.invariant c.loop-i-test.true refl (rw c.in-Err.is at c.on_byte.ensures)
 
 pub overflow_add-i : goal.overflow_add-i
 overflow_add-i c = search (rules, c.loop-i-test.true, c.loop-i.invariant.running.checked.text_few)
@@ -49,10 +49,10 @@ pub loop-i-smaller : goal.loop-i-smaller
 loop-i-smaller c = search (rules, c.loop-i-test.true)
 
 pub loop-i-preserved : goal.loop-i-preserved
-loop-i-preserved c = so_far_more c.loop-i.invariant c.loop-i-test.true refl (record { seats = c.seats-1.given; froms = c.froms-1.given; tos = c.tos-1.given; sets = c.sets-1.given; numbers = c.numbers-1.given; pool = c.pool-1.given; stack = c.stack-1.given; places = c.places-1.given; locals = c.locals-1.given; tree = c.tree-1.given }) (rw c.in-Going.is at c.on_byte.ensures)
+loop-i-preserved c = so_far_more c.loop-i.invariant c.loop-i-test.true refl (record { seats = c.seats-1.given; froms = c.froms-1.given; tos = c.tos-1.given; sets = c.sets-1.given; numbers = c.numbers-1.given; pool = c.pool-1.given; stack = c.stack-1.given; places = c.places-1.given; locals = c.locals-1.given; tree = c.tree-1.given }) (rw c.in-Ok.is at c.on_byte.ensures)
 
-pub shape_of-tree-in-Over : goal.shape_of-tree-in-Over
-shape_of-tree-in-Over c = c.tree-1.given ∙ c.loop-i.invariant.sizes.tree
+pub shape_of-tree-in-Err : goal.shape_of-tree-in-Err
+shape_of-tree-in-Err c = c.tree-1.given ∙ c.loop-i.invariant.sizes.tree
 
 pub shape_of-seats : goal.shape_of-seats
 shape_of-seats c = c.loop-i.invariant.sizes.seats

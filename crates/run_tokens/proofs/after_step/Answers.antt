@@ -5,8 +5,8 @@ use Rattle.run_tokens.proofs.after_step.Goals as goal
 pub returns-then-local-eq0 : goal.returns-then-local-eq0
 returns-then-local-eq0 c = labels-none c.local_span-local.ensures c.if-local-eq0.true
 
-pub returns-in-Go : goal.returns-in-Go
-returns-in-Go c = labels-given c.local_span-local.ensures c.if-local-eq0.false c.give_local.ensures c.in-Go.is
+pub returns-in-Ok : goal.returns-in-Ok
+returns-in-Ok c = labels-given c.local_span-local.ensures c.if-local-eq0.false c.give_local.ensures c.in-Ok.is
 
-pub returns-in-Refused : goal.returns-in-Refused
-returns-in-Refused c = labels-refused c.local_span-local.ensures c.if-local-eq0.false c.give_local.ensures c.in-Refused.is
+pub returns-in-Err : goal.returns-in-Err
+returns-in-Err c = labels-refused c.local_span-local.ensures c.if-local-eq0.false c.give_local.ensures c.in-Err.is

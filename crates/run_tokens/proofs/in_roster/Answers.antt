@@ -3,10 +3,10 @@ use mathlib.Core.Path.{refl}
 use Rattle.run_tokens.specs.Tokens.{roster_read}
 use Rattle.run_tokens.proofs.in_roster.Goals as goal
 
-pub returns-in-Go : goal.returns-in-Go
+pub returns-in-Ok : goal.returns-in-Ok
 unfolding roster_read
-returns-in-Go c = rw c.in-Go.is refl
+returns-in-Ok c = rw c.in-Ok.is refl
 
-pub returns-in-Refused : goal.returns-in-Refused
+pub returns-in-Err : goal.returns-in-Err
 unfolding roster_read
-returns-in-Refused c = rw c.in-Refused.is refl
+returns-in-Err c = rw c.in-Err.is refl

@@ -11,10 +11,10 @@ pub run_token-requires : goal.run_token-requires
 run_token-requires c = record { labelled = c.requires.labelled; running = c.requires.running; within = c.requires.within.0 }
 
 pub after_step-requires : goal.after_step-requires
-after_step-requires c = record { limit_in_bounds = (label-there (running-on c.requires.running c.run_token.ensures c.in-Go.is)).0; counted = (label-there (running-on c.requires.running c.run_token.ensures c.in-Go.is)).1; within = (c.requires.within.0, c.requires.running.checked.text_few) }
+after_step-requires c = record { limit_in_bounds = (label-there (running-on c.requires.running c.run_token.ensures c.in-Ok.is)).0; counted = (label-there (running-on c.requires.running c.run_token.ensures c.in-Ok.is)).1; within = (c.requires.within.0, c.requires.running.checked.text_few) }
 
-pub returns-in-Go : goal.returns-in-Go
-returns-in-Go c = normal-ran c.requires.running (sym c.is_token.ensures ∙ c.if-is_token.false) c.run_token.ensures c.in-Go.is c.after_step.ensures
+pub returns-in-Ok : goal.returns-in-Ok
+returns-in-Ok c = normal-ran c.requires.running (sym c.is_token.ensures ∙ c.if-is_token.false) c.run_token.ensures c.in-Ok.is c.after_step.ensures
 
-pub returns-in-Refused : goal.returns-in-Refused
-returns-in-Refused c = normal-refused c.requires.running (sym c.is_token.ensures ∙ c.if-is_token.false) c.run_token.ensures c.in-Refused.is
+pub returns-in-Err : goal.returns-in-Err
+returns-in-Err c = normal-refused c.requires.running (sym c.is_token.ensures ∙ c.if-is_token.false) c.run_token.ensures c.in-Err.is

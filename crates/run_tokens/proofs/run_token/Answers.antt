@@ -31,6 +31,6 @@ pub returns-in-Frame : goal.returns-in-Frame
 unfolding range
 returns-in-Frame c = token-frame c.requires.running c.mark_span-mark.ensures c.prepare_step.ensures c.in-Frame.is (omega (arith, c.requires.running.sized.seats)) c.execute_step.ensures
 
-pub returns-in-Refused : goal.returns-in-Refused
+pub returns-in-Err : goal.returns-in-Err
 unfolding range
-returns-in-Refused c = token-refused c.requires.running c.mark_span-mark.ensures c.prepare_step.ensures c.in-Refused.is
+returns-in-Err c = token-refused c.requires.running c.mark_span-mark.ensures c.prepare_step.ensures c.in-Err.is

@@ -5,8 +5,8 @@ use Rattle.seats.proofs.seat_entries.Goals as goal
 pub returns-then-none_marked : goal.returns-then-none_marked
 returns-then-none_marked c = seats-in-order (c.none_marked.ensures.none c.if-none_marked.true) c.seat_in_order.ensures
 
-pub returns-in-Done : goal.returns-in-Done
-returns-in-Done c = seats-filled c.in-Done.is c.check_marks.ensures c.fill_seats.ensures
+pub returns-in-Ok : goal.returns-in-Ok
+returns-in-Ok c = seats-filled c.in-Ok.is c.check_marks.ensures c.fill_seats.ensures
 
-pub returns-in-Refused : goal.returns-in-Refused
-returns-in-Refused c = seats-refused c.in-Refused.is c.check_marks.ensures
+pub returns-in-Err : goal.returns-in-Err
+returns-in-Err c = seats-refused c.in-Err.is c.check_marks.ensures

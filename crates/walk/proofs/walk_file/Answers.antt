@@ -4,22 +4,22 @@ use Rattle.bench.proofs.Checking.{symbols-fit, symbols-length, statements-fit, s
 use Rattle.walk.proofs.walk_file.Goals as goal
 
 pub slice_bounds-symbols-end : goal.slice_bounds-symbols-end
-slice_bounds-symbols-end c = symbols-fit c.check.ensures c.in-Good.is c.offsets-symbols.ensures
+slice_bounds-symbols-end c = symbols-fit c.check.ensures c.in-Ok.is c.offsets-symbols.ensures
 
 pub slice_bounds-walk_checked-end : goal.slice_bounds-walk_checked-end
-slice_bounds-walk_checked-end c = symbols-length c.check.ensures c.in-Good.is
+slice_bounds-walk_checked-end c = symbols-length c.check.ensures c.in-Ok.is
 
 pub slice_bounds-statements-end : goal.slice_bounds-statements-end
-slice_bounds-statements-end c = statements-fit c.check.ensures c.in-Good.is c.offsets-statements.ensures
+slice_bounds-statements-end c = statements-fit c.check.ensures c.in-Ok.is c.offsets-statements.ensures
 
-pub slice_bounds-walk_checked-end-in-Good : goal.slice_bounds-walk_checked-end-in-Good
-slice_bounds-walk_checked-end-in-Good c = statements-length c.check.ensures c.in-Good.is
+pub slice_bounds-walk_checked-end-in-Ok : goal.slice_bounds-walk_checked-end-in-Ok
+slice_bounds-walk_checked-end-in-Ok c = statements-length c.check.ensures c.in-Ok.is
 
 pub walk_checked-requires : goal.walk_checked-requires
-walk_checked-requires c = filed c.check.ensures c.in-Good.is
+walk_checked-requires c = filed c.check.ensures c.in-Ok.is
 
-pub returns-in-Refused : goal.returns-in-Refused
-returns-in-Refused c = walk_refused c.check.ensures c.in-Refused.is
+pub returns-in-Err : goal.returns-in-Err
+returns-in-Err c = walk_refused c.check.ensures c.in-Err.is
 
-pub returns-in-Good : goal.returns-in-Good
-returns-in-Good c = walk-good c.check.ensures c.in-Good.is c.walk_checked.ensures
+pub returns-in-Ok : goal.returns-in-Ok
+returns-in-Ok c = walk-good c.check.ensures c.in-Ok.is c.walk_checked.ensures

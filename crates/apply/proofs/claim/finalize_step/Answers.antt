@@ -11,11 +11,11 @@ do_substitute-requires c = record { used_le_limit = c.requires.used_le_pool.0; i
 pub push-requires : goal.push-requires
 push-requires c = c.requires.used_le_pool.1
 
-pub returns-in-Full : goal.returns-in-Full
-returns-in-Full c = finalizes-full c.requires.used_le_pool.0.1 c.do_substitute.ensures.bytes.sized (rw c.in-Full.is at c.do_substitute.ensures.lists)
+pub returns-in-None : goal.returns-in-None
+returns-in-None c = finalizes-full c.requires.used_le_pool.0.1 c.do_substitute.ensures.bytes.sized (rw c.in-None.is at c.do_substitute.ensures.lists)
 
-pub returns-in-To : goal.returns-in-To
-returns-in-To c =
+pub returns-in-Some : goal.returns-in-Some
+returns-in-Some c =
     let add = c.do_substitute.ensures.bytes in
-    let said = grown-of-to _ _ _ _ (rw c.in-To.is at add.answers) in
-    finalizes-to c.requires.used_le_pool.0.1 add.sized (let e = said.0 in omega arith) (rw c.in-To.is at c.do_substitute.ensures.lists) c.claim_row-row.ensures c.push.ensures
+    let said = grown-of-to _ _ _ _ (rw c.in-Some.is at add.answers) in
+    finalizes-to c.requires.used_le_pool.0.1 add.sized (let e = said.0 in omega arith) (rw c.in-Some.is at c.do_substitute.ensures.lists) c.claim_row-row.ensures c.push.ensures

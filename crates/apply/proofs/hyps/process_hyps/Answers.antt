@@ -13,19 +13,19 @@ pub process_hyp-requires : goal.process_hyp-requires
 process_hyp-requires c = let v = c.loop-j.invariant in ((c.seat_row-row.ensures.rises, (omega (arith, c.seat_row-row.ensures.within), omega (arith, c.seat_row-row.ensures.within))), (ranged-more c.requires.0.0 v.ranged, omega (arith, v.froms_sized, v.tos_sized)))
 
 pub loop-j-preserved : goal.loop-j-preserved
-loop-j-preserved c = processing-more c.loop-j.invariant (let t = c.loop-j-test.true in rw c.hypotheses-n.ensures.0 at t) c.hypothesis.ensures c.statement_offset-o.ensures c.seat_row-row.ensures c.process_hyp.ensures c.in-Fine.is
+loop-j-preserved c = processing-more c.loop-j.invariant (let t = c.loop-j-test.true in rw c.hypotheses-n.ensures.0 at t) c.hypothesis.ensures c.statement_offset-o.ensures c.seat_row-row.ensures c.process_hyp.ensures c.in-Ok.is
 
-pub shape_of-froms-in-Refused : goal.shape_of-froms-in-Refused
-shape_of-froms-in-Refused c = c.process_hyp.ensures.froms_sized ∙ c.loop-j.invariant.froms_sized
+pub shape_of-froms-in-Err : goal.shape_of-froms-in-Err
+shape_of-froms-in-Err c = c.process_hyp.ensures.froms_sized ∙ c.loop-j.invariant.froms_sized
 
-pub shape_of-tos-in-Refused : goal.shape_of-tos-in-Refused
-shape_of-tos-in-Refused c = c.process_hyp.ensures.tos_sized ∙ c.loop-j.invariant.tos_sized
+pub shape_of-tos-in-Err : goal.shape_of-tos-in-Err
+shape_of-tos-in-Err c = c.process_hyp.ensures.tos_sized ∙ c.loop-j.invariant.tos_sized
 
-pub shape_of-sets-in-Refused : goal.shape_of-sets-in-Refused
-shape_of-sets-in-Refused c = c.process_hyp.ensures.sets_sized ∙ c.loop-j.invariant.sets_sized
+pub shape_of-sets-in-Err : goal.shape_of-sets-in-Err
+shape_of-sets-in-Err c = c.process_hyp.ensures.sets_sized ∙ c.loop-j.invariant.sets_sized
 
-pub returns-in-Refused : goal.returns-in-Refused
-returns-in-Refused c = processing-stop c.loop-j.invariant (let t = c.loop-j-test.true in rw c.hypotheses-n.ensures.0 at t) c.hypothesis.ensures c.statement_offset-o.ensures c.seat_row-row.ensures c.process_hyp.ensures c.in-Refused.is
+pub returns-in-Err : goal.returns-in-Err
+returns-in-Err c = processing-stop c.loop-j.invariant (let t = c.loop-j-test.true in rw c.hypotheses-n.ensures.0 at t) c.hypothesis.ensures c.statement_offset-o.ensures c.seat_row-row.ensures c.process_hyp.ensures c.in-Err.is
 
 pub shape_of-froms : goal.shape_of-froms
 shape_of-froms c = c.loop-j.invariant.froms_sized

@@ -9,8 +9,8 @@ process_hyps-requires c = ((omega (arith, c.requires.used_le_pool.0.0, c.require
 pub apply_checked-requires : goal.apply_checked-requires
 apply_checked-requires c = record { used_le_pool = c.requires.used_le_pool; ranged = c.process_hyps.ensures.ranged }
 
-pub returns-in-Refused : goal.returns-in-Refused
-returns-in-Refused c = seated-refused (rw c.in-Refused.is at c.process_hyps.ensures)
+pub returns-in-Err : goal.returns-in-Err
+returns-in-Err c = seated-refused (rw c.in-Err.is at c.process_hyps.ensures)
 
-pub returns-in-Fine : goal.returns-in-Fine
-returns-in-Fine c = seated-fine (rw c.in-Fine.is at c.process_hyps.ensures) c.apply_checked.ensures
+pub returns-in-Ok : goal.returns-in-Ok
+returns-in-Ok c = seated-fine (rw c.in-Ok.is at c.process_hyps.ensures) c.apply_checked.ensures

@@ -19,8 +19,8 @@ record_step-noted-requires c = ((omega (arith, c.requires.ranged.1.1.0), c.if-n-
 pub apply_seated-requires : goal.apply_seated-requires
 apply_seated-requires c = record { used_le_pool = c.requires.used_le_pool; ranged = (c.requires.ranged.0, (c.requires.ranged.1.0, omega (arith, c.requires.ranged.1.1.0))) }
 
-pub returns-in-Refused : goal.returns-in-Refused
-returns-in-Refused c = executes-refused c.statement_offset-at.ensures c.hypotheses-n.ensures.0 c.if-depth-n.false c.if-n-gt64.false c.requires.ranged.0.0 (rw c.in-Refused.is at c.seat_entries.ensures)
+pub returns-in-Err : goal.returns-in-Err
+returns-in-Err c = executes-refused c.statement_offset-at.ensures c.hypotheses-n.ensures.0 c.if-depth-n.false c.if-n-gt64.false c.requires.ranged.0.0 (rw c.in-Err.is at c.seat_entries.ensures)
 
-pub returns-in-Done : goal.returns-in-Done
-returns-in-Done c = executes-seated c.statement_offset-at.ensures c.hypotheses-n.ensures.0 c.if-depth-n.false c.if-n-gt64.false (rw c.in-Done.is at c.seat_entries.ensures) c.record_step-noted.ensures c.apply_seated.ensures
+pub returns-in-Ok : goal.returns-in-Ok
+returns-in-Ok c = executes-seated c.statement_offset-at.ensures c.hypotheses-n.ensures.0 c.if-depth-n.false c.if-n-gt64.false (rw c.in-Ok.is at c.seat_entries.ensures) c.record_step-noted.ensures c.apply_seated.ensures

@@ -3,10 +3,10 @@ use Rattle.ends.proofs.Labelling.{saves-labelled}
 use Rattle.ends.specs.Local.{labelled}
 use Rattle.ends.proofs.local.save_labelled.Goals as goal
 
-pub returns-in-Refused : goal.returns-in-Refused
+pub returns-in-Err : goal.returns-in-Err
 unfolding labelled
-returns-in-Refused c = saves-labelled (rw c.in-Refused.is at c.save_top.ensures)
+returns-in-Err c = saves-labelled (rw c.in-Err.is at c.save_top.ensures)
 
-pub returns-in-Go : goal.returns-in-Go
+pub returns-in-Ok : goal.returns-in-Ok
 unfolding labelled
-returns-in-Go c = saves-labelled (rw c.in-Go.is at c.save_top.ensures)
+returns-in-Ok c = saves-labelled (rw c.in-Ok.is at c.save_top.ensures)

@@ -9,15 +9,15 @@ returns-then-c-gt256 c =
     let a = c.args in
     prepares-many a.file.now a.symbols.now a.at a.numbers.now a.count a.pool.now a.used a.limit c.map_float-c.ensures c.if-c-gt256.true
 
-pub returns-in-To : goal.returns-in-To
-returns-in-To c =
+pub returns-in-Some : goal.returns-in-Some
+returns-in-Some c =
     let a = c.args in
     let add = c.do_substitute_raw.ensures.bytes in
-    let said = grown-of-to _ a.used a.limit _ (rw c.in-To.is at add.answers) in
-    prepares-ready a.file.now a.symbols.now a.at a.numbers.now a.count a.pool.now a.used a.limit c.map_float-c.ensures (omega arith) (omega arith) add.sized (let e = said.0 in omega arith) said.1 (rw c.in-To.is at c.do_substitute_raw.ensures.lists) add.kept add.past
+    let said = grown-of-to _ a.used a.limit _ (rw c.in-Some.is at add.answers) in
+    prepares-ready a.file.now a.symbols.now a.at a.numbers.now a.count a.pool.now a.used a.limit c.map_float-c.ensures (omega arith) (omega arith) add.sized (let e = said.0 in omega arith) said.1 (rw c.in-Some.is at c.do_substitute_raw.ensures.lists) add.kept add.past
 
-pub returns-in-Full : goal.returns-in-Full
-returns-in-Full c =
+pub returns-in-None : goal.returns-in-None
+returns-in-None c =
     let a = c.args in
     let add = c.do_substitute_raw.ensures.bytes in
-    prepares-full a.file.now a.symbols.now a.at a.numbers.now a.count a.pool.now a.used a.limit c.map_float-c.ensures (omega arith) (omega arith) add.sized (rw c.in-Full.is at c.do_substitute_raw.ensures.lists) add.kept add.past
+    prepares-full a.file.now a.symbols.now a.at a.numbers.now a.count a.pool.now a.used a.limit c.map_float-c.ensures (omega arith) (omega arith) add.sized (rw c.in-None.is at c.do_substitute_raw.ensures.lists) add.kept add.past

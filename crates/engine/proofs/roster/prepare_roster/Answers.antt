@@ -12,8 +12,8 @@ returns-in-Hypothesis c = roster-hypothesis c.prepare_label.ensures c.in-Hypothe
 pub returns-in-Frame : goal.returns-in-Frame
 returns-in-Frame c = roster-frame c.prepare_label.ensures c.in-Frame.is c.requires.bounded.0 c.place_frame.ensures refl
 
-pub returns-in-Refused : goal.returns-in-Refused
-returns-in-Refused c = roster-refused c.prepare_label.ensures c.in-Refused.is
+pub returns-in-Err : goal.returns-in-Err
+returns-in-Err c = roster-refused c.prepare_label.ensures c.in-Err.is
 
 pub returns-in-Place : goal.returns-in-Place
 returns-in-Place c = roster-place c.prepare_label.ensures c.in-Place.is

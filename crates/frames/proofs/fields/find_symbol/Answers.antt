@@ -4,9 +4,9 @@ use Rattle.frames.specs.Database.{symbol_at}
 use mathlib.Core.Path.{sym}
 use Rattle.frames.proofs.fields.find_symbol.Goals as goal
 
-pub returns-in-At : goal.returns-in-At
+pub returns-in-Some : goal.returns-in-Some
 unfolding symbol_at
-returns-in-At c = let a = c.args in finds-at a.file.now a.symbols.now a.name.now _ _ c.in-At.is c.find.ensures
+returns-in-Some c = let a = c.args in finds-at a.file.now a.symbols.now a.name.now _ _ c.in-Some.is c.find.ensures
 
-pub returns-in-Nothing : goal.returns-in-Nothing
-returns-in-Nothing c = let a = c.args in sym (finds-unused a.file.now a.symbols.now a.name.now _ c.in-Nothing.is c.find.ensures)
+pub returns-in-None : goal.returns-in-None
+returns-in-None c = let a = c.args in sym (finds-unused a.file.now a.symbols.now a.name.now _ c.in-None.is c.find.ensures)

@@ -2,8 +2,8 @@
 use Rattle.frames.proofs.Found.{finds-unused, finds-used}
 use Rattle.frames.proofs.text.is_used.Goals as goal
 
-pub returns-in-At : goal.returns-in-At
-returns-in-At c = let a = c.args in finds-used a.file.now a.offsets.now a.text.now _ _ c.in-At.is c.find.ensures
+pub returns-in-Some : goal.returns-in-Some
+returns-in-Some c = let a = c.args in finds-used a.file.now a.offsets.now a.text.now _ _ c.in-Some.is c.find.ensures
 
-pub returns-in-Nothing : goal.returns-in-Nothing
-returns-in-Nothing c = let a = c.args in finds-unused a.file.now a.offsets.now a.text.now _ c.in-Nothing.is c.find.ensures
+pub returns-in-None : goal.returns-in-None
+returns-in-None c = let a = c.args in finds-unused a.file.now a.offsets.now a.text.now _ c.in-None.is c.find.ensures

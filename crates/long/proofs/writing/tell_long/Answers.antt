@@ -2,8 +2,8 @@
 use Rattle.long.proofs.Accepting.{refused-long}
 use Rattle.long.proofs.writing.tell_long.Goals as goal
 
-pub returns-in-Accepted : goal.returns-in-Accepted
-returns-in-Accepted c = rw c.in-Accepted.is c.long_accepted.ensures
+pub returns-in-Ok : goal.returns-in-Ok
+returns-in-Ok c = rw c.in-Ok.is c.long_accepted.ensures
 
-pub returns-in-Refused : goal.returns-in-Refused
-returns-in-Refused c = rw c.in-Refused.is (refused-long _ _ _ _ c.tell.ensures)
+pub returns-in-Err : goal.returns-in-Err
+returns-in-Err c = rw c.in-Err.is (refused-long _ _ _ _ c.tell.ensures)

@@ -33,18 +33,18 @@ meet_name-requires c =
     let h = here-symbol a.file.now a.at c.loop-j.j c.symbol_count-n.ensures.0 c.symbols_from-base.ensures.0 c.u16_at.ensures.0 (omega arith) in
     search rules
 
-pub returns-in-Differs : goal.returns-in-Differs
-returns-in-Differs c =
+pub returns-in-None : goal.returns-in-None
+returns-in-None c =
     let whole = raw-lists c.args.file.now c.args.symbols.now c.args.at
     (let a = c.args in
     let h = here-symbol a.file.now a.at c.loop-j.j c.symbol_count-n.ensures.0 c.symbols_from-base.ensures.0 c.u16_at.ensures.0 (omega arith) in
-    meets-stop c.loop-j.invariant h (sym c.in-Differs.is ∙ met-spelled a.file.now a.symbols.now c.u16_at.result _ _ _ c.meet_name.ensures c.name-name.ensures c.entry.ensures)) in record { bytes = whole.0; lists = whole.1 }
+    meets-stop c.loop-j.invariant h (sym c.in-None.is ∙ met-spelled a.file.now a.symbols.now c.u16_at.result _ _ _ c.meet_name.ensures c.name-name.ensures c.entry.ensures)) in record { bytes = whole.0; lists = whole.1 }
 
 pub loop-j-preserved : goal.loop-j-preserved
 loop-j-preserved c =
     let a = c.args in
     let h = here-symbol a.file.now a.at c.loop-j.j c.symbol_count-n.ensures.0 c.symbols_from-base.ensures.0 c.u16_at.ensures.0 (omega arith) in
-    meets-more c.loop-j.invariant h (sym c.in-To.is ∙ met-spelled a.file.now a.symbols.now c.u16_at.result _ _ _ c.meet_name.ensures c.name-name.ensures c.entry.ensures)
+    meets-more c.loop-j.invariant h (sym c.in-Some.is ∙ met-spelled a.file.now a.symbols.now c.u16_at.result _ _ _ c.meet_name.ensures c.name-name.ensures c.entry.ensures)
 
 pub returns : goal.returns
 unfolding equal

@@ -20,11 +20,11 @@ add_symbol-requires c =
     let size = joins-length v in
     (v.room, omega arith)
 
-pub shape_of-pool-in-Full : goal.shape_of-pool-in-Full
-shape_of-pool-in-Full c = c.add_symbol.ensures.sized ∙ joins-length c.loop-i.invariant
+pub shape_of-pool-in-None : goal.shape_of-pool-in-None
+shape_of-pool-in-None c = c.add_symbol.ensures.sized ∙ joins-length c.loop-i.invariant
 
-pub returns-in-Full : goal.returns-in-Full
-returns-in-Full c =
+pub returns-in-None : goal.returns-in-None
+returns-in-None c =
     let whole = spells-lists c.args.file.now c.args.symbols.now c.args.at
     (let a = c.args in
     let i = c.loop-i.i in
@@ -34,7 +34,7 @@ returns-in-Full c =
     let l : i < length (symbols_at a.file.now a.at) = omega arith in
     let stands = here-symbol a.file.now a.at i count c.symbols_from-base.ensures.0 c.u16_at.ensures.0 c.loop-i-test.true in
     let here = here-get_or stands 0 in
-    joins-full v l here refl (rw c.in-Full.is at c.add_symbol.ensures)) in record { bytes = whole.0; lists = whole.1 }
+    joins-full v l here refl (rw c.in-None.is at c.add_symbol.ensures)) in record { bytes = whole.0; lists = whole.1 }
 
 pub loop-i-preserved : goal.loop-i-preserved
 loop-i-preserved c =
@@ -46,7 +46,7 @@ loop-i-preserved c =
     let l : i < length (symbols_at a.file.now a.at) = omega arith in
     let stands = here-symbol a.file.now a.at i count c.symbols_from-base.ensures.0 c.u16_at.ensures.0 c.loop-i-test.true in
     let here = here-get_or stands 0 in
-    joins-more v l here refl (rw c.in-To.is at c.add_symbol.ensures)
+    joins-more v l here refl (rw c.in-Some.is at c.add_symbol.ensures)
 
 pub shape_of-pool : goal.shape_of-pool
 shape_of-pool c = joins-length c.loop-i.invariant

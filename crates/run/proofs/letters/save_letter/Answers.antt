@@ -5,11 +5,11 @@ use Rattle.run.proofs.letters.save_letter.Goals as goal
 pub save_top-requires : goal.save_top-requires
 save_top-requires c = c.requires.limit_in_bounds
 
-pub returns-in-Go : goal.returns-in-Go
-returns-in-Go c = rw c.if-saves.true (save-go c.requires.low (rw c.in-Go.is at c.save_top.ensures))
+pub returns-in-Ok : goal.returns-in-Ok
+returns-in-Ok c = rw c.if-saves.true (save-go c.requires.low (rw c.in-Ok.is at c.save_top.ensures))
 
-pub returns-in-Refused : goal.returns-in-Refused
-returns-in-Refused c = rw c.if-saves.true (save-full (rw c.in-Refused.is at c.save_top.ensures))
+pub returns-in-Err : goal.returns-in-Err
+returns-in-Err c = rw c.if-saves.true (save-full (rw c.in-Err.is at c.save_top.ensures))
 
 pub returns : goal.returns
 returns c = rw c.if-saves.false save-not

@@ -11,10 +11,10 @@ pub check_mark-requires : goal.check_mark-requires
 check_mark-requires c = let v = c.loop-k.invariant in (v.low, omega arith)
 
 pub loop-k-preserved : goal.loop-k-preserved
-loop-k-preserved c = judging-more c.loop-k.invariant (omega arith) c.in-Done.is c.check_mark.ensures
+loop-k-preserved c = judging-more c.loop-k.invariant (omega arith) c.in-Ok.is c.check_mark.ensures
 
-pub returns-in-Refused : goal.returns-in-Refused
-returns-in-Refused c = judging-stop c.loop-k.invariant (omega arith) c.in-Refused.is c.check_mark.ensures
+pub returns-in-Err : goal.returns-in-Err
+returns-in-Err c = judging-stop c.loop-k.invariant (omega arith) c.in-Err.is c.check_mark.ensures
 
 pub returns : goal.returns
 returns c = judging-done c.loop-k.invariant (omega arith)
