@@ -1,4 +1,5 @@
 -- Every answer is small enough to be one number of 64 bits: 8 bits of number, 24 of place, 32 of steps.
+use Rattle.std.proofs.Common.{Ok, Err}
 use Prim.Native.Nat.{ℕ, ◌+◌, ◌≤◌, ◌<◌}
 use mathlib.Core.Path.{◌≡◌, refl, sym, ◌∙◌, ap}
 use mathlib.Core.Bool.{Bool, true, false}
@@ -103,5 +104,5 @@ module _ (f : List ℕ) (p : ℕ) (room : Room) where
       by_kind good false k = none-small
 
       by-verdict : (v : Verdict) → verdict f ≡ v → Small (judged v (answer_good (database f) p room))
-      by-verdict (Good a b) e = by_kind (good-answer f a b e).0 _ refl
-      by-verdict (Refused why at) e = away-small why at (refused-place f why at e)
+      by-verdict (Ok sizes) e = by_kind (good-answer f sizes.symbols sizes.statements e).0 _ refl
+      by-verdict (Err away) e = away-small away.why away.place (refused-place f away.why away.place e)

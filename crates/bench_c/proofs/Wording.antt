@@ -1,5 +1,5 @@
 -- Every answer of the two calls fits into one number, and no two outcomes keep what they promise.
-use Rattle.std.proofs.Common.{Ok}
+use Rattle.std.proofs.Common.{Ok, Err}
 use Prim.Native.Nat.{ℕ, zero, suc, ◌+◌, ◌≤◌, ◌<◌}
 use mathlib.Core.Path.{◌≡◌, refl, sym, ◌∙◌, ap}
 use mathlib.Core.Bool.{Bool, true, false}
@@ -57,16 +57,16 @@ module _ (f : List ℕ) where
   -- what the walk answers is small
   count_small : (v : Verdict) {count : ℕ} → verdict f ≡ v → Ok count ≡ walked_of v (database f) → count < 4294967296
   unfolding walked_of
-  count_small (Good n k) {count} e is =
+  count_small (Ok sizes) {count} e is =
       let few = all-few e in
       let same : count ≡ length (provable (database f)) = cc in
       omega arith
-  count_small (Refused why at) e is = let z : ◌≡◌ {A = ℕ} 0 1 = cc in absurd (omega arith)
+  count_small (Err away) e is = let z : ◌≡◌ {A = ℕ} 0 1 = cc in absurd (omega arith)
 
   place_small : (v : Verdict) {why : Refusal} {at : ℕ} → verdict f ≡ v → Refused why at ≡ walked_of v (database f) → at ≤ 1048576
   unfolding walked_of
-  place_small (Good n k) e is = let z : ◌≡◌ {A = ℕ} 0 1 = cc in absurd (omega arith)
-  place_small (Refused why' at') {why} {at} e is =
+  place_small (Ok sizes) e is = let z : ◌≡◌ {A = ℕ} 0 1 = cc in absurd (omega arith)
+  place_small (Err away) {why} {at} e is =
       let small = refused-place f why' at' e in
       let same : at ≡ at' = cc in
       omega arith

@@ -1,8 +1,8 @@
 -- The one induction over the walk. A property of outcomes holds of the walk's if it holds at the end of the file and at a
 -- faulty record, wherever an invariant holds that each faultless record keeps. So an invariant holds of a good file's index.
-use Rattle.std.proofs.Common.{Some, None}
+use Rattle.std.proofs.Common.{Some, None, Ok, Err}
 use Prim.Native.Nat.{ℕ, zero, suc, ◌+◌, ◌<◌}
-use mathlib.Core.Path.{◌≡◌, refl}
+use mathlib.Core.Path.{◌≡◌, refl, ap}
 use mathlib.Core.Bool.{Bool, true, false}
 use mathlib.Core.List.{List}
 use native.Mathlib.Omega.{arith}
@@ -49,6 +49,19 @@ Ends Inv r = (a b : ℕ) → r.verdict ≡ Good a b → (o : ℕ) × Inv r.index
 
 pub refused-not-good : {v : Verdict} {why : Refusal} {place a b : ℕ} → v ≡ Refused why place → v ≡ Good a b → ⊥
 refused-not-good p q = let z : ◌≡◌ {A = ℕ} 0 1 = cc in omega arith
+
+-- two good verdicts that are the same count the same
+symbols-in : Verdict → ℕ
+symbols-in (Ok sizes) = sizes.symbols
+symbols-in (Err away) = 0
+
+statements-in : Verdict → ℕ
+statements-in (Ok sizes) = sizes.statements
+statements-in (Err away) = 0
+
+pub good-parts : {a b c d : ℕ} → Good a b ≡ Good c d → (a ≡ c) × (b ≡ d)
+unfolding symbols-in statements-in
+good-parts e = (ap symbols-in e, ap statements-in e)
 
 refusal-ends : (Inv : Index → ℕ → Type 0) (why : Refusal) (place : ℕ) (ix : Index) → Ends Inv (refusal why place ix)
 unfolding refusal

@@ -11,7 +11,7 @@ use Rattle.frames.specs.Verdict.{Index, nothing, refusal, end_verdict, at_end, o
 use Rattle.frames.specs.Database.{database, GoodFile}
 use Rattle.frames.specs.declared.Refusal.{Refusal}
 use Rattle.frames.specs.declared.Refusal.TheVariants.{TooMany, NoProof}
-use Rattle.facts.proofs.Kept.{pick-cases, walk_is, refused-not-good}
+use Rattle.facts.proofs.Kept.{pick-cases, walk_is, refused-not-good, good-parts}
 use Rattle.facts.proofs.Decoded.{symbols-length, statements-length}
 
 -- no two outcomes satisfy the contract
@@ -64,5 +64,5 @@ good-answer f a b e = here (verdict-decides f)
   where
     here : (verdict f ≡ Good (length (index f).symbols) (length (index f).statements)) ⊎ RefusedAt f (verdict f)
         → GoodFile f × (a ≡ length (database f).symbols) × (b ≡ length (database f).statements)
-    here (inl g) = let h = (good-file f g).is in (good-file f g, cc, cc)
+    here (inl g) = let h = good-parts (sym e ∙ (good-file f g).is) in (good-file f g, h.0, h.1)
     here (inr r) = absurd (refused-not-good r.is e)

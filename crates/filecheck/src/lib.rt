@@ -149,10 +149,12 @@ fn walk_records(file: &[u8], symbols: &mut [u32], statements: &mut [u32]) -> Ver
         if len <= at {
             return at_end(len, st);
         }
-        if let Some(why) = judge(file, &symbols[..], &statements[..], st) {
-            return Err(TurnedAway { why, place: at });
+        match judge(file, &symbols[..], &statements[..], st) {
+            Some(why) => return Err(TurnedAway { why, place: at }),
+            None => {
+                st = advance(file, symbols, statements, st);
+            }
         }
-        st = advance(file, symbols, statements, st);
     }
 }
 

@@ -1,5 +1,5 @@
 -- Laws of searching: two lists are the same exactly when the test says so, and a member that passes is found.
-use Rattle.std.proofs.Common.{Some, None}
+use Rattle.std.proofs.Common.{Some, None, is_some}
 use Prim.Native.Nat.{ℕ, zero, suc, ◌<◌}
 use mathlib.Core.Path.{◌≡◌, refl, sym, ap, ap₂, subst, ◌∙◌}
 use mathlib.Core.Bool.{Bool, true, false}
@@ -64,3 +64,8 @@ finds-unused f os text r e h = sym (subst (Finds f os text) e h)
 
 pub finds-at : (f os text : List ℕ) (r : Found) (i : ℕ) → r ≡ Some i → Finds f os text r → (i < length os) × (rest_at f (get_or os i 0) ≡ text)
 finds-at f os text r i e h = subst (Finds f os text) e h
+
+-- a search finds something exactly where the name or label is used
+pub finds-is : (f os text : List ℕ) (r : Found) → Finds f os text r → is_some r ≡ used f os text
+finds-is f os text (Some i) h = finds-used f os text (Some i) i refl h
+finds-is f os text None h = sym h

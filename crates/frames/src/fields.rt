@@ -140,12 +140,14 @@ pub fn proof_text(file: &[u8], at: u32) -> &[u8]
 pub fn find_symbol(file: &[u8], symbols: &[u32], name: &[u8]) -> Option<SymbolNo>
     ensures { FindsSymbol file.now symbols.now name.now result }
 {
-    find(file, symbols, name).map(SymbolNo)
+    let i = find(file, symbols, name)?;
+    Some(SymbolNo(i))
 }
 
 // The statement of this label.
 pub fn find_statement(file: &[u8], statements: &[u32], label: &[u8]) -> Option<StatementNo>
     ensures { FindsStatement file.now statements.now label.now result }
 {
-    find(file, statements, label).map(StatementNo)
+    let i = find(file, statements, label)?;
+    Some(StatementNo(i))
 }

@@ -1,5 +1,6 @@
 -- Acceptance means derivation: if the bench answers 0, the tree that the run built is a derivation, by the book's rules, of the claim from
 -- its own $e, the active $f and earlier assertions. Soundness is followed through the run; a good file has the facts that it needs.
+use Rattle.std.proofs.Common.{Ok, Err}
 use Prim.Native.Nat.{ℕ, ◌<◌}
 use mathlib.Core.Path.{◌≡◌, refl, ap, ◌∙◌}
 use mathlib.Core.Bool.{Bool, true, false}
@@ -113,8 +114,8 @@ answer-derived file p room = by-verdict (verdict file) refl
     by_kind facts false e = no_claim
 
     by-verdict : (v : Verdict) → verdict file ≡ v → Derived (database file) p (judged v (answer_good (database file) p room))
-    by-verdict (Good a b) e = by_kind (good-facts file (good-answer file a b e).0) _ refl
-    by-verdict (Refused why place) e = no_file
+    by-verdict (Ok sizes) e = by_kind (good-facts file (good-answer file sizes.symbols sizes.statements e).0) _ refl
+    by-verdict (Err away) e = no_file
 
 -- an accepted answer holds a derivation of the claim
 pub accepted-derives : (file : List ℕ) (p : ℕ) (room : Room) {place steps consumed : ℕ} {tree : Tree}

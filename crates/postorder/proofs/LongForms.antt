@@ -1,6 +1,7 @@
 -- Demand 3: the long form of an accepted proof, put into the old proof's place, is accepted for the same claim with the same derivation,
 -- and its long form is itself; or a run lacks room. The first run has `room`, the second `room'`, each cut to the greatest sizes; `entries`
 -- and `output` are lent to the first long-form call, `entries'` and `output'` to the second.
+use Rattle.std.proofs.Common.{Ok, Err}
 use Prim.Native.Nat.{ℕ, ◌≤◌, ◌<◌, min}
 use mathlib.Core.Path.{◌≡◌, refl, sym, ◌∙◌}
 use mathlib.Core.Bool.{Bool, true, false}
@@ -52,8 +53,8 @@ accepted-ran file p room place steps consumed tree e = by-verdict (verdict file)
 
     by-verdict : (v : Verdict) → verdict file ≡ v → judged v (answer_good (database file) p room) ≡ accepted place steps consumed tree
         → Ran file p room (accepted place steps consumed tree)
-    by-verdict (Good a b) c q = by_kind (good-answer file a b c).0 _ refl q
-    by-verdict (Refused why at) c q = let z : ◌≡◌ {A = ℕ} 0 1 = cc in absurd (omega arith)
+    by-verdict (Ok sizes) c q = by_kind (good-answer file sizes.symbols sizes.statements c).0 _ refl q
+    by-verdict (Err away) c q = let z : ◌≡◌ {A = ℕ} 0 1 = cc in absurd (omega arith)
 
 -- the answer for a $p of a good file is that of its run
 ran-answer : (file : List ℕ) (p : ℕ) (room : Room) → GoodFile file → (statement_of (database file) p).kind ≡ 5

@@ -1,5 +1,6 @@
 -- One proof in two rooms: its room decides only whether a run is refused for lack of it. The two runs keep in step until one of them is
 -- refused; so where both are accepted, the answers are the same, with the same derivation, and the long form is the same text.
+use Rattle.std.proofs.Common.{Ok, Err}
 use Prim.Native.Nat.{ℕ, ◌+◌}
 use mathlib.Core.Path.{◌≡◌, refl, sym, ap, ◌∙◌}
 use mathlib.Core.Bool.{Bool, true, false}
@@ -264,8 +265,8 @@ answers-same file p room room' = by-verdict (verdict file)
     by_kind false = same_answer
 
     by-verdict : (v : Verdict) → SameAnswer (judged v (answer_good (database file) p room)) (judged v (answer_good (database file) p room'))
-    by-verdict (Good a b) = by_kind (equal (statement_of (database file) p).kind 5)
-    by-verdict (Refused why at) = same_answer
+    by-verdict (Ok sizes) = by_kind (equal (statement_of (database file) p).kind 5)
+    by-verdict (Err away) = same_answer
 
 both-accepted : {a a' : Answer} {place steps consumed place' steps' consumed' : ℕ} {tree tree' : Tree} → SameAnswer a a'
     → a ≡ accepted place steps consumed tree → a' ≡ accepted place' steps' consumed' tree'

@@ -1,5 +1,6 @@
 -- What the program writes has at most 524,317 bytes: a number has at most 20 digits, a label at most 64 bytes, a line at most 128, and there are at most 4,096 lines
 -- after the first.
+use Rattle.std.proofs.Common.{Ok, Err}
 use Prim.Native.Nat.{ℕ, zero, suc, ◌+◌, ◌*◌, ◌/◌, ◌%◌, ◌≤◌}
 use mathlib.Core.Path.{◌≡◌, refl, ap}
 use mathlib.Core.Bool.{Bool, true, false, cond}
@@ -112,8 +113,8 @@ unfolding text_of
 text_few f = by (verdict f) refl
   where
     by : (v : Verdict) → verdict f ≡ v → length (text_of v f) ≤ 524317
-    by (Good a b) e = checked-few f (good-answer f a b e).0
-    by (Refused why place) e = refused-few (number_of why) place
+    by (Ok sizes) e = checked-few f (good-answer f sizes.symbols sizes.statements e).0
+    by (Err away) e = refused-few (number_of away.why) away.place
 
 pub output-few : (input : List ℕ) → length (output_of input) ≤ 524317
 unfolding output_of pick

@@ -10,11 +10,11 @@ use Rattle.resolve.specs.declared.PreparedStep.TheVariants as step
 abbrev pub Readied : Type 0
 Readied = Result PreparedStep Refusal
 
-abbrev pub Place : PlaceNo → Readied
+pattern abbrev pub Place : PlaceNo → Readied
 Place k = Ok (step.Place k)
 
-abbrev pub Hypothesis : StatementNo → Readied
+pattern abbrev pub Hypothesis : StatementNo → Readied
 Hypothesis h = Ok (step.Hypothesis h)
 
-abbrev pub Frame : StatementNo → Readied
+pattern abbrev pub Frame : StatementNo → Readied
 Frame a = Ok (step.Frame a)

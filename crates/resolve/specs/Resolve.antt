@@ -1,5 +1,5 @@
 -- What an answer of the code stands for in the definition of a run, and what it tells of the statement that it names.
-use Rattle.std.specs.Prelude.{ℕ, ◌<◌, ◌≡◌, Bool, ◌⊎◌, List, length, get_or, Some, None, Ok, Err}
+use Rattle.std.specs.Prelude.{ℕ, ◌<◌, ◌≡◌, Bool, ◌⊎◌, List, length, get_or, Some, None, Err}
 use Rattle.std.proofs.Math.Option.{Option, none, some}
 use Rattle.frames.specs.Logic.{either, no}
 use Rattle.frames.specs.Database.{Database, database, statement_at}
@@ -14,7 +14,6 @@ use Rattle.machine.specs.Memory.{Room, Memory, applies, place_of}
 use Rattle.machine.specs.Prepare.{Ready, ready, prepare_hypothesis, prepare_place, sought, sought_label, prepare_statement, prepare_found, prepare_local, ambiguous, prepare_normal}
 use Rattle.machine.specs.declared.Refusal.TheVariants.{ChainBackref}
 use Rattle.resolve.specs.Readied.{Readied, Place, Hypothesis, Frame}
-use Rattle.resolve.specs.declared.PreparedStep.TheVariants as step
 use Rattle.resolve.specs.Filed.{Filed}
 use Rattle.resolve.specs.Locals.{locals_of}
 
@@ -25,9 +24,9 @@ statement_found None = none
 
 -- the definition's result for an answer of the code
 unfoldable pub readied : Database → Room → Memory → Readied → Result Ready
-readied db room m (Ok (step.Place k)) = prepare_place m k.0
-readied db room m (Ok (step.Hypothesis h)) = prepare_hypothesis db room m h.0
-readied db room m (Ok (step.Frame a)) = fine (ready m (applies a.0))
+readied db room m (Place k) = prepare_place m k.0
+readied db room m (Hypothesis h) = prepare_hypothesis db room m h.0
+readied db room m (Frame a) = fine (ready m (applies a.0))
 readied db room m (Err why) = stop why
 
 -- a $f or $e before p; a $e only where p lists it

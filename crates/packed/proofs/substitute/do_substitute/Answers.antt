@@ -29,8 +29,8 @@ add_piece-requires c =
     let ends = v.ends in
     record { used_le_limit = (v.room, omega arith); imaged = imaged-one c.requires.imaged stands v.low _ (omega arith) }
 
-pub shape_of-pool-in-None : goal.shape_of-pool-in-None
-shape_of-pool-in-None c =
+pub shape_of-pool-in_err-end : goal.shape_of-pool-in_err-end
+shape_of-pool-in_err-end c =
     let a = c.args in
     let i = c.loop-i.i in
     let v = c.loop-i.invariant in
@@ -41,9 +41,10 @@ shape_of-pool-in-None c =
     let here = here-get_or stands 0 in
     c.add_piece.ensures.sized ∙ joins-length v
 
-pub returns-in-None : goal.returns-in-None
-returns-in-None c =
-    let whole = substitutes-lists c.args.file.now c.args.symbols.now c.args.at c.args.froms.now c.args.tos.now
+pub returns-in_err-end : goal.returns-in_err-end
+returns-in_err-end c =
+    rw c.from_residual.ensures
+    (let whole = substitutes-lists c.args.file.now c.args.symbols.now c.args.at c.args.froms.now c.args.tos.now
     (let a = c.args in
     let i = c.loop-i.i in
     let v = c.loop-i.invariant in
@@ -54,7 +55,7 @@ returns-in-None c =
     let here = here-get_or stands 0 in
     let im = imaged-one c.requires.imaged stands v.low a.used (omega arith) in
     let kept = piece-kept a.file.now a.symbols.now a.froms.now a.tos.now _ a.pool.now _ a.used _ im (omega arith) v.is in
-    joins-full v l here kept (rw c.in-None.is at c.add_piece.ensures)) in record { bytes = whole.0; lists = whole.1 }
+    joins-full v l here kept (rw c.in_err-end.was at c.add_piece.ensures)) in record { bytes = whole.0; lists = whole.1 })
 
 pub loop-i-preserved : goal.loop-i-preserved
 loop-i-preserved c =
@@ -68,7 +69,7 @@ loop-i-preserved c =
     let here = here-get_or stands 0 in
     let im = imaged-one c.requires.imaged stands v.low a.used (omega arith) in
     let kept = piece-kept a.file.now a.symbols.now a.froms.now a.tos.now _ a.pool.now _ a.used _ im (omega arith) v.is in
-    joins-more v l here kept (rw c.in-Some.is at c.add_piece.ensures)
+    joins-more v l here kept (rw c.in_ok-end.was at c.add_piece.ensures)
 
 pub shape_of-pool : goal.shape_of-pool
 shape_of-pool c = joins-length c.loop-i.invariant

@@ -20,12 +20,13 @@ add_symbol-requires c =
     let size = joins-length v in
     (v.room, omega arith)
 
-pub shape_of-pool-in-None : goal.shape_of-pool-in-None
-shape_of-pool-in-None c = c.add_symbol.ensures.sized ∙ joins-length c.loop-i.invariant
+pub shape_of-pool-in_err-end : goal.shape_of-pool-in_err-end
+shape_of-pool-in_err-end c = c.add_symbol.ensures.sized ∙ joins-length c.loop-i.invariant
 
-pub returns-in-None : goal.returns-in-None
-returns-in-None c =
-    let whole = spells-lists c.args.file.now c.args.symbols.now c.args.at
+pub returns-in_err-end : goal.returns-in_err-end
+returns-in_err-end c =
+    rw c.from_residual.ensures
+    (let whole = spells-lists c.args.file.now c.args.symbols.now c.args.at
     (let a = c.args in
     let i = c.loop-i.i in
     let v = c.loop-i.invariant in
@@ -34,7 +35,7 @@ returns-in-None c =
     let l : i < length (symbols_at a.file.now a.at) = omega arith in
     let stands = here-symbol a.file.now a.at i count c.symbols_from-base.ensures.0 c.u16_at.ensures.0 c.loop-i-test.true in
     let here = here-get_or stands 0 in
-    joins-full v l here refl (rw c.in-None.is at c.add_symbol.ensures)) in record { bytes = whole.0; lists = whole.1 }
+    joins-full v l here refl (rw c.in_err-end.was at c.add_symbol.ensures)) in record { bytes = whole.0; lists = whole.1 })
 
 pub loop-i-preserved : goal.loop-i-preserved
 loop-i-preserved c =
@@ -46,7 +47,7 @@ loop-i-preserved c =
     let l : i < length (symbols_at a.file.now a.at) = omega arith in
     let stands = here-symbol a.file.now a.at i count c.symbols_from-base.ensures.0 c.u16_at.ensures.0 c.loop-i-test.true in
     let here = here-get_or stands 0 in
-    joins-more v l here refl (rw c.in-Some.is at c.add_symbol.ensures)
+    joins-more v l here refl (rw c.in_ok-end.was at c.add_symbol.ensures)
 
 pub shape_of-pool : goal.shape_of-pool
 shape_of-pool c = joins-length c.loop-i.invariant
