@@ -1,5 +1,5 @@
 -- What a step is: the code's tests are those of the definition, in its order. Each law is one return of the code.
-use Rattle.std.proofs.Common.{Some, None, Err}
+use Rattle.std.proofs.Common.{Some, None, Err, is_some as found_some}
 use Prim.Native.Nat.{ℕ, ◌≤◌, ◌<◌}
 use mathlib.Core.Path.{◌≡◌, refl, sym, ◌∙◌, ap, ap₂}
 use mathlib.Core.Bool.{Bool, true, false}
@@ -222,6 +222,13 @@ module _ (f stmts token : List ℕ) where
     pub tells-new : r ≡ None → TellsAmbiguous f stmts token false
     unfolding statement_found is_some
     tells-new e = tells (ap (λ (x : FoundStatement). is_some (statement_found x)) e)
+
+    pub tells-sought : TellsAmbiguous f stmts token (found_some r)
+    tells-sought = by r refl
+      where
+        by : (x : FoundStatement) → r ≡ x → TellsAmbiguous f stmts token (found_some r)
+        by (Some s) e = rw e (tells-ambiguous e)
+        by None e = rw e (tells-new e)
 
   pub tells_none : is_some (split token).local ≡ false → TellsAmbiguous f stmts token false
   tells_none e = record { tells = λ syms w. sym (ambiguous-none (database f) (split token).local e) }

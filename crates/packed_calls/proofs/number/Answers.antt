@@ -1,12 +1,14 @@
 -- `packed_calls::number` meets its contract: in each case the number is the definition's.
-use mathlib.Core.Path.{ap, sym}
+use Rattle.std.proofs.Common.{◌≡◌, refl, ◌∙◌, Some, None}
+use Rattle.std.specs.Option.{unwrap_or}
+use Rattle.packed.specs.Pool.{Grown}
 use Rattle.packed_calls.specs.Answers.{number_of}
 use Rattle.packed_calls.proofs.number.Goals as goal
 
-pub returns-in-Some : goal.returns-in-Some
+number-or : (grown : Grown) → unwrap_or grown 18446744073709551615 ≡ number_of grown
 unfolding number_of
-returns-in-Some c = ap number_of (sym c.in-Some.is)
+number-or (Some end) = refl
+number-or None = refl
 
-pub returns-in-None : goal.returns-in-None
-unfolding number_of
-returns-in-None c = ap number_of (sym c.in-None.is)
+pub returns : goal.returns
+returns c = c.unwrap_or.ensures ∙ number-or _

@@ -1,4 +1,5 @@
 -- `proof::run_text` meets its contract.
+use Rattle.std.proofs.lemmas.Result.{err_from_is_err_and}
 use mathlib.Core.Path.{refl, ◌∙◌}
 use Rattle.run.specs.Reads.{beginning}
 use Rattle.proof.proofs.Whole.{text-going, text-over}
@@ -9,40 +10,42 @@ pub read_text-requires : goal.read_text-requires
 read_text-requires c = record { labelled = c.requires.labelled; running = c.requires.running; low = ((beginning, refl), refl) }
 
 pub end_text-requires : goal.end_text-requires
-end_text-requires c = let is = c.in-Ok.is in let few = c.requires.running.checked.text_few in record { labelled = c.requires.labelled; running = c.read_text.ensures.running _ is; low = ((c.read_text.ensures.low _ is, omega (arith, c.read_text.ensures.few _ is)), c.read_text.ensures.begun _ is) }
+end_text-requires c = let is = c.in_ok-s.was in let few = c.requires.running.checked.text_few in record { labelled = c.requires.labelled; running = c.read_text.ensures.running _ is; low = ((c.read_text.ensures.low _ is, omega (arith, c.read_text.ensures.few _ is)), c.read_text.ensures.begun _ is) }
 
-pub returns-in-Err : goal.returns-in-Err
-returns-in-Err c = text-over (rw c.in-Err.is at c.read_text.ensures)
+pub returns-in_err-s : goal.returns-in_err-s
+returns-in_err-s c =
+    let p = err_from_is_err_and c.from_residual.result c.from_residual.ensures.1 in rw (p.1, p.2)
+    (text-over (rw c.in_err-s.was at c.read_text.ensures))
 
-pub shape_of-seats-in-Ok : goal.shape_of-seats-in-Ok
-shape_of-seats-in-Ok c = c.seats-in-Ok-1.given ∙ c.seats-1.given
+pub shape_of-seats : goal.shape_of-seats
+shape_of-seats c = c.seats-1.given ∙ c.seats-1.given
 
-pub shape_of-froms-in-Ok : goal.shape_of-froms-in-Ok
-shape_of-froms-in-Ok c = c.froms-in-Ok-1.given ∙ c.froms-1.given
+pub shape_of-froms : goal.shape_of-froms
+shape_of-froms c = c.froms-1.given ∙ c.froms-1.given
 
-pub shape_of-tos-in-Ok : goal.shape_of-tos-in-Ok
-shape_of-tos-in-Ok c = c.tos-in-Ok-1.given ∙ c.tos-1.given
+pub shape_of-tos : goal.shape_of-tos
+shape_of-tos c = c.tos-1.given ∙ c.tos-1.given
 
-pub shape_of-sets-in-Ok : goal.shape_of-sets-in-Ok
-shape_of-sets-in-Ok c = c.sets-in-Ok-1.given ∙ c.sets-1.given
+pub shape_of-sets : goal.shape_of-sets
+shape_of-sets c = c.sets-1.given ∙ c.sets-1.given
 
-pub shape_of-numbers-in-Ok : goal.shape_of-numbers-in-Ok
-shape_of-numbers-in-Ok c = c.numbers-in-Ok-1.given ∙ c.numbers-1.given
+pub shape_of-numbers : goal.shape_of-numbers
+shape_of-numbers c = c.numbers-1.given ∙ c.numbers-1.given
 
-pub shape_of-pool-in-Ok : goal.shape_of-pool-in-Ok
-shape_of-pool-in-Ok c = c.pool-in-Ok-1.given ∙ c.pool-1.given
+pub shape_of-pool : goal.shape_of-pool
+shape_of-pool c = c.pool-1.given ∙ c.pool-1.given
 
-pub shape_of-stack-in-Ok : goal.shape_of-stack-in-Ok
-shape_of-stack-in-Ok c = c.stack-in-Ok-1.given ∙ c.stack-1.given
+pub shape_of-stack : goal.shape_of-stack
+shape_of-stack c = c.stack-1.given ∙ c.stack-1.given
 
-pub shape_of-places-in-Ok : goal.shape_of-places-in-Ok
-shape_of-places-in-Ok c = c.places-in-Ok-1.given ∙ c.places-1.given
+pub shape_of-places : goal.shape_of-places
+shape_of-places c = c.places-1.given ∙ c.places-1.given
 
-pub shape_of-locals-in-Ok : goal.shape_of-locals-in-Ok
-shape_of-locals-in-Ok c = c.locals-in-Ok-1.given ∙ c.locals-1.given
+pub shape_of-locals : goal.shape_of-locals
+shape_of-locals c = c.locals-1.given ∙ c.locals-1.given
 
-pub shape_of-tree-in-Ok : goal.shape_of-tree-in-Ok
-shape_of-tree-in-Ok c = c.tree-in-Ok-1.given ∙ c.tree-1.given
+pub shape_of-tree : goal.shape_of-tree
+shape_of-tree c = c.tree-1.given ∙ c.tree-1.given
 
-pub returns-in-Ok : goal.returns-in-Ok
-returns-in-Ok c = text-going (rw c.in-Ok.is at c.read_text.ensures) c.end_text.ensures
+pub returns : goal.returns
+returns c = text-going (rw c.in_ok-s.was at c.read_text.ensures) c.end_text.ensures

@@ -5,6 +5,3 @@ use Rattle.apply.proofs.hyps.process_hyps.Given as goal
 
 abbrev pub invariant-loop-j : goal.invariant-loop-j
 invariant-loop-j l = Processing l.file l.symbols l.statements l.at l.stack l.base l.seats l.used l.initial.froms l.initial.tos l.initial.sets l.pool l.j l.froms l.tos l.sets
-
-abbrev pub decreases-loop-j : goal.decreases-loop-j
-decreases-loop-j l = l.n - l.j

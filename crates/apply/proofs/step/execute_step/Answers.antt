@@ -1,4 +1,5 @@
 -- `apply::step::execute_step` meets its contract: 32, then 33 and 34, then all tests of the assertion.
+use Rattle.std.proofs.lemmas.Result.{err_from_is_err_and}
 use Rattle.apply.proofs.Steps.{executes-never, executes-refused, executes-seated, executes-underflow}
 use native.Mathlib.Omega.{arith}
 use Rattle.apply.proofs.step.execute_step.Goals as goal
@@ -19,8 +20,10 @@ record_step-noted-requires c = ((omega (arith, c.requires.ranged.1.1.0), c.if-n-
 pub apply_seated-requires : goal.apply_seated-requires
 apply_seated-requires c = record { used_le_pool = c.requires.used_le_pool; ranged = (c.requires.ranged.0, (c.requires.ranged.1.0, omega (arith, c.requires.ranged.1.1.0))) }
 
-pub returns-in-Err : goal.returns-in-Err
-returns-in-Err c = executes-refused c.statement_offset-at.ensures c.hypotheses-n.ensures.0 c.if-depth-n.false c.if-n-gt64.false c.requires.ranged.0.0 (rw c.in-Err.is at c.seat_entries.ensures)
+pub returns-in_err-seat_entries : goal.returns-in_err-seat_entries
+returns-in_err-seat_entries c =
+    let p = err_from_is_err_and c.from_residual.result c.from_residual.ensures.1 in rw (p.1, p.2)
+    (executes-refused c.statement_offset-at.ensures c.hypotheses-n.ensures.0 c.if-depth-n.false c.if-n-gt64.false c.requires.ranged.0.0 (rw c.in_err-seat_entries.was at c.seat_entries.ensures))
 
-pub returns-in-Ok : goal.returns-in-Ok
-returns-in-Ok c = executes-seated c.statement_offset-at.ensures c.hypotheses-n.ensures.0 c.if-depth-n.false c.if-n-gt64.false (rw c.in-Ok.is at c.seat_entries.ensures) c.record_step-noted.ensures c.apply_seated.ensures
+pub returns : goal.returns
+returns c = executes-seated c.statement_offset-at.ensures c.hypotheses-n.ensures.0 c.if-depth-n.false c.if-n-gt64.false (rw c.in_ok-seat_entries.was at c.seat_entries.ensures) c.record_step-noted.ensures c.apply_seated.ensures

@@ -5,6 +5,3 @@ use Rattle.engine.proofs.roster.preload.Given as goal
 
 abbrev pub invariant-loop-i : goal.invariant-loop-i
 invariant-loop-i l = Preloading l.file l.symbols l.statements l.at l.limits l.initial.numbers l.initial.pool l.initial.places l.initial.now l.i l.numbers l.pool l.places l.now
-
-abbrev pub decreases-loop-i : goal.decreases-loop-i
-decreases-loop-i l = l.n - l.i

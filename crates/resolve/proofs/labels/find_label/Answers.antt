@@ -7,10 +7,12 @@ pub find_labelled-requires : goal.find_labelled-requires
 find_labelled-requires c = c.requires
 
 pub returns-then-may_name : goal.returns-then-may_name
-returns-then-may_name c = let a = c.args in label-found a.file.now a.statements.now a.label.now c.in-Some.is c.find_labelled.ensures a.p.0 (sym c.may_name.ensures ∙ c.if-may_name.true)
+returns-then-may_name c = let a = c.args in label-found a.file.now a.statements.now a.label.now c.in_ok-s.was c.find_labelled.ensures a.p.0 (sym c.may_name.ensures ∙ c.if-may_name.true)
 
-pub returns-else-may_name : goal.returns-else-may_name
-returns-else-may_name c = let a = c.args in label-refused a.file.now a.statements.now a.label.now c.in-Some.is c.find_labelled.ensures a.p.0 (sym c.may_name.ensures ∙ c.if-may_name.false)
+pub returns : goal.returns
+returns c = let a = c.args in label-refused a.file.now a.statements.now a.label.now c.in_ok-s.was c.find_labelled.ensures a.p.0 (sym c.may_name.ensures ∙ c.if-may_name.false)
 
-pub returns-in-None : goal.returns-in-None
-returns-in-None c = let a = c.args in label-nowhere a.file.now a.statements.now a.label.now c.in-None.is c.find_labelled.ensures a.p.0
+pub returns-in_err-s : goal.returns-in_err-s
+returns-in_err-s c =
+    rw c.from_residual.ensures
+    (let a = c.args in label-nowhere a.file.now a.statements.now a.label.now c.in_err-s.was c.find_labelled.ensures a.p.0)

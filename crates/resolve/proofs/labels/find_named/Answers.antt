@@ -7,10 +7,12 @@ pub find_labelled-requires : goal.find_labelled-requires
 find_labelled-requires c = c.requires
 
 pub returns-then-is_essential : goal.returns-then-is_essential
-returns-then-is_essential c = let a = c.args in named-essential a.file.now a.statements.now a.label.now c.in-Some.is c.find_labelled.ensures (sym c.is_essential.ensures ∙ c.if-is_essential.true)
+returns-then-is_essential c = let a = c.args in named-essential a.file.now a.statements.now a.label.now c.in_ok-s.was c.find_labelled.ensures (sym c.is_essential.ensures ∙ c.if-is_essential.true)
 
-pub returns-else-is_essential : goal.returns-else-is_essential
-returns-else-is_essential c = let a = c.args in named-found a.file.now a.statements.now a.label.now c.in-Some.is c.find_labelled.ensures (sym c.is_essential.ensures ∙ c.if-is_essential.false)
+pub returns : goal.returns
+returns c = let a = c.args in named-found a.file.now a.statements.now a.label.now c.in_ok-s.was c.find_labelled.ensures (sym c.is_essential.ensures ∙ c.if-is_essential.false)
 
-pub returns-in-None : goal.returns-in-None
-returns-in-None c = let a = c.args in named-absent a.file.now a.statements.now a.label.now c.in-None.is c.find_labelled.ensures
+pub returns-in_err-s : goal.returns-in_err-s
+returns-in_err-s c =
+    rw c.from_residual.ensures
+    (let a = c.args in named-absent a.file.now a.statements.now a.label.now c.in_err-s.was c.find_labelled.ensures)

@@ -1,4 +1,5 @@
 -- `seats::marks::check_marks` meets its contract: the rows so far passed (`Judging`).
+use Rattle.std.proofs.lemmas.Result.{err_from_is_err_and}
 use Prim.Native.Nat.{◌-◌}
 use Rattle.seats.proofs.Checking.{judging-none, judging-more, judging-stop, judging-done}
 use native.Mathlib.Omega.{arith}
@@ -11,10 +12,12 @@ pub check_mark-requires : goal.check_mark-requires
 check_mark-requires c = let v = c.loop-k.invariant in (v.low, omega arith)
 
 pub loop-k-preserved : goal.loop-k-preserved
-loop-k-preserved c = judging-more c.loop-k.invariant (omega arith) c.in-Ok.is c.check_mark.ensures
+loop-k-preserved c = judging-more c.loop-k.invariant (omega arith) c.in_ok-check_mark.was c.check_mark.ensures
 
-pub returns-in-Err : goal.returns-in-Err
-returns-in-Err c = judging-stop c.loop-k.invariant (omega arith) c.in-Err.is c.check_mark.ensures
+pub returns-in_err-check_mark : goal.returns-in_err-check_mark
+returns-in_err-check_mark c =
+    let p = err_from_is_err_and c.from_residual.result c.from_residual.ensures.1 in rw (p.1, p.2)
+    (judging-stop c.loop-k.invariant (omega arith) c.in_err-check_mark.was c.check_mark.ensures)
 
 pub returns : goal.returns
 returns c = judging-done c.loop-k.invariant (omega arith)

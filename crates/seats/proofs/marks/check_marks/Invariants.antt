@@ -6,6 +6,3 @@ use Rattle.seats.proofs.marks.check_marks.Given as goal
 
 abbrev pub invariant-loop-k : goal.invariant-loop-k
 invariant-loop-k l = Judging (labels_at l.file l.statements l.at) l.text l.stack l.base l.to l.k
-
-abbrev pub decreases-loop-k : goal.decreases-loop-k
-decreases-loop-k l = l.to - l.k
