@@ -1,5 +1,5 @@
 -- Preparing a hypothesis: the code's tests are those of the definition, on the counts that the tables hold.
-use Rattle.std.proofs.Common.{Some, None, Err}
+use Rattle.std.proofs.Common.{Some, None, Ok, Err}
 use Prim.Native.Nat.{ℕ, ◌+◌, ◌-◌, ◌≤◌, ◌<◌}
 use mathlib.Core.Path.{◌≡◌, refl, sym, ◌∙◌, ap}
 use mathlib.Core.Bool.{Bool, true, false}
@@ -25,7 +25,7 @@ use Rattle.packed.proofs.Joining.{grown-of-to, grown-of-full}
 use Rattle.variables.specs.Numbering.{Numbered, Maps}
 use Rattle.resolve.proofs.Filing.{located-statement}
 use Rattle.engine.specs.Hypothesis.{MapsFloat, result_of, Prepares}
-use Rattle.engine.specs.Prepared.{Made}
+use Rattle.engine.specs.Prepared.{Prepared, Made}
 
 chain-stop : {A : Type 0} {t : Bool} {why : Refusal} (rest : Result A) → t ≡ true → unless t why rest ≡ stop why
 unfolding unless
@@ -52,6 +52,19 @@ pub float-none : (f : List ℕ) (at k : ℕ) (table : List ℕ) (count : ℕ) �
 unfolding numbered_by is_float pick
 float-none f at k table count kind not-two =
     record { sized = refl; maps = λ vs inside n. rw (equal-no (λ two. not-two (kind ∙ two))) n }
+
+-- two hypotheses that are ready and the same have the same parts
+used-in : Prepared → ℕ
+used-in (Ok r) = r.used
+used-in (Err why) = 0
+
+count-in : Prepared → ℕ
+count-in (Ok r) = r.count
+count-in (Err why) = 0
+
+made-parts : {u c u' c' : ℕ} → Made u c ≡ Made u' c' → (u ≡ u') × (c ≡ c')
+unfolding used-in count-in
+made-parts e = (ap used-in e, ap count-in e)
 
 module _ (f syms : List ℕ) (at : ℕ) (table : List ℕ) (count : ℕ) (pool : List ℕ) (used limit : ℕ) {table' : List ℕ} {count' : ℕ}
     (m : MapsFloat f at table count table' count') where
@@ -110,8 +123,9 @@ module _ (f syms : List ℕ) (at : ℕ) (table : List ℕ) (count : ℕ) (pool :
           sized = m.sized;
           pool_sized = same_size;
           bounds = λ u c e.
-              let end_is : u ≡ end = cc in
-              let count-is : c ≡ count' = cc in
+              let parts = made-parts e in
+              let end_is : u ≡ end = sym parts.0 in
+              let count-is : c ≡ count' = sym parts.1 in
               (omega arith, (omega arith, omega arith));
           kept = kept;
           past = past;
@@ -122,8 +136,8 @@ module _ (f syms : List ℕ) (at : ℕ) (table : List ℕ) (count : ℕ) (pool :
               let spent : cost (database f) (expression_of (database f) h).symbols ≡ end - used = omega arith in
               chain-skip TooManyVariables (below-no (omega arith)) ∙ (chain-skip PoolFull (below-no (omega arith))
               ∙ ap (λ (k : ℕ). fine (ready (spend mem (numbered_by (statement_of (database f) h) mem.variables) k) (recalls (leaf_of (database f) h)))) spent);
-          numbers = λ h vs u c loc e inside n. let same : c ≡ count' = cc in rw same (counted h vs loc inside n);
-          holds = λ h u c ix loc e. let same : u ≡ end = cc in rw same (written-there h ix loc);
+          numbers = λ h vs u c loc e inside n. let same : c ≡ count' = sym (made-parts e).1 in rw same (counted h vs loc inside n);
+          holds = λ h u c ix loc e. let same : u ≡ end = sym (made-parts e).0 in rw same (written-there h ix loc);
         }
       where
         written-there : (h : ℕ) → Indexed f syms → Located f h at
