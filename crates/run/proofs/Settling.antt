@@ -1,6 +1,6 @@
 -- What is settled: a result goes on as the rest says, or is refused at its place; and what is kept.
 use Prim.Native.Nat.{ℕ, ◌+◌, ◌≤◌}
-use mathlib.Core.Path.{◌≡◌, refl}
+use mathlib.Core.Path.{◌≡◌, refl, sym}
 use mathlib.Core.List.{List, [], ◌∷◌}
 use native.Mathlib.Omega.{arith}
 use Rattle.machine.specs.declared.Refusal.{Refusal}
@@ -13,6 +13,7 @@ use Rattle.memory.specs.declared.Counts.{Counts}
 use Rattle.memory.specs.Shown.{Shown}
 use Rattle.run.specs.declared.Mode.{Mode}
 use Rattle.run.specs.Read.{Go, Stop}
+use Rattle.run.proofs.Parts.{go-parts}
 use Rattle.run.specs.Running.{Env, Tables, Sized, bench_of, lent_of}
 use Rattle.run.specs.Reads.{mode_of, Low, Reads, goes, stops, Keeps}
 
@@ -46,9 +47,9 @@ keeps-stop =
 pub keeps-go : {n : ℕ} {t : Tables} {steps steps' : ℕ} {mode : Mode} {c : Counts} → Sized n t c.used → Low mode → steps' ≤ steps + 1 → Keeps n t steps (Go mode c steps')
 keeps-go {n} {t} {steps} {steps'} {mode} {c} s l f =
     record {
-      sized = λ mode'' c'' s'' e. let same : c'' ≡ c = cc in rw same s;
-      low = λ mode'' c'' s'' e. let same : mode'' ≡ mode = cc in rw same l;
-      few = λ mode'' c'' s'' e. let same : s'' ≡ steps' = cc in omega arith;
+      sized = λ mode'' c'' s'' e. let same : c'' ≡ c = sym (go-parts e).1 in rw same s;
+      low = λ mode'' c'' s'' e. let same : mode'' ≡ mode = sym (go-parts e).0 in rw same l;
+      few = λ mode'' c'' s'' e. let same : s'' ≡ steps' = sym (go-parts e).2 in omega arith;
     }
 
 -- saving leaves the pool as it is

@@ -80,15 +80,20 @@ pub fn save_letter(
     ensures { SaveLetter stack.now places.old places.new c limit k saves steps result }
 {
     if saves {
-        let now = save_top(stack, places, c, limit).map_err(|why| Halted { why, steps })?;
-        return Ok(Going {
-            mode: Mode::Letters {
-                k: k,
-                can_save: AFTER_SAVE,
-            },
-            counts: now,
-            steps: steps,
-        });
+        return match save_top(stack, places, c, limit) {
+            Ok(now) => Ok(Going {
+                mode: Mode::Letters {
+                    k: k,
+                    can_save: AFTER_SAVE,
+                },
+                counts: now,
+                steps: steps,
+            }),
+            Err(why) => Err(Halted {
+                why: why,
+                steps: steps,
+            }),
+        };
     }
     Err(Halted {
         why: Refusal::ProofInvalidSave,

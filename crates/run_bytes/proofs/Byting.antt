@@ -20,6 +20,7 @@ use Rattle.memory.specs.Shown.{room_of, Shown}
 use Rattle.run.specs.declared.Mode.{Mode}
 use Rattle.run.specs.declared.Mode.TheVariants.{Letters}
 use Rattle.run.specs.Read.{Read, Go, Stop}
+use Rattle.run.proofs.Parts.{go-parts, stop-parts}
 use Rattle.run_bytes.specs.declared.State.{State}
 use Rattle.run_bytes.specs.Next.{Next}
 use Rattle.run.specs.Running.{Env, Tables, Sized, bench_of, lent_of, width_of}
@@ -51,9 +52,10 @@ module _ {at place : ℕ} where
       gone : (e : Env) (t : Tables) {state : machine.State} {read : Read} → Reads e t place (machine.go_on at) state read → read ≡ Go mode c steps
           → Alike e t (at + 1) state (Ok (record { mode = mode; token = at + 1; steps = steps; counts = c }))
       gone e t (goes {mode = mode'} {c = c'} {steps = steps'} s n) is =
-          let a : mode' ≡ mode = cc in
-          let b : c' ≡ c = cc in
-          let d : steps' ≡ steps = cc in
+          let parts = go-parts is in
+          let a : mode' ≡ mode = parts.0 in
+          let b : c' ≡ c = parts.1 in
+          let d : steps' ≡ steps = parts.2 in
           let suc-is : suc at ≡ at + 1 = omega arith in
           going (record { shown = rw b at s; steps = n ∙ d; mode = ap mode_of a; token = range_none (at + 1) e.text; place = suc-is })
       gone e t stops is = let z : ◌≡◌ {A = ℕ} 0 1 = cc in absurd (omega arith)
@@ -75,8 +77,9 @@ module _ {at place : ℕ} where
           → Alike e t (at + 1) state (Err (record { why = why; place = place; steps = steps }))
       gone e t (goes s n) is = let z : ◌≡◌ {A = ℕ} 0 1 = cc in absurd (omega arith)
       gone e t (stops {why = why'} {steps = steps'}) is =
-          let a : why' ≡ why = cc in
-          let b : steps' ≡ steps = cc in
+          let parts = stop-parts is in
+          let a : why' ≡ why = parts.0 in
+          let b : steps' ≡ steps = parts.1 in
           rw (a, b) over
 
 -- one byte more of a range

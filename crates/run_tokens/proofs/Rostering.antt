@@ -124,7 +124,7 @@ module _ {e : Env} {t : Tables} {c : Counts} (r : Running e t c) where
 
     -- `)`
     pub token-closes : {mode : Mode} → mode ≡ Roster → same (range from to e.text) closing ≡ true
-        → ReadsToken e t t c mode from to steps (Ok (Letters 0 false) c steps)
+        → ReadsToken e t t c mode from to steps (Go (Letters 0 false) c steps)
     unfolding machine.on_token mode_of pick
     token-closes is closes =
         record {
@@ -147,7 +147,7 @@ module _ {e : Env} {t : Tables} {c : Counts} (r : Running e t c) where
         }
 
     -- in the letters
-    pub token-letters : {mode : Mode} {k : ℕ} {can_save : Bool} → mode ≡ Letters k can_save → Low mode → ReadsToken e t t c mode from to steps (Ok (Letters k can_save) c steps)
+    pub token-letters : {mode : Mode} {k : ℕ} {can_save : Bool} → mode ≡ Letters k can_save → Low mode → ReadsToken e t t c mode from to steps (Go (Letters k can_save) c steps)
     unfolding machine.on_token mode_of
     token-letters is low =
         record {

@@ -155,7 +155,7 @@ given-it {text} {span = span} stands there gives-it e t m lends shown =
 
 module _ {text stack places locals : List ℕ} {from to : ℕ} {c : Counts} {limit done : ℕ} {span : Span} (stands : StandsFor text (split (range from to text)).local span) where
   -- no local label
-  pub labels-none : span.tag ≡ 0 → LabelsStep text stack places locals from to c limit done places locals (Ok Normal c done)
+  pub labels-none : span.tag ≡ 0 → LabelsStep text stack places locals from to c limit done places locals (Go Normal c done)
   unfolding machine.after_step mode_of mark_of give_local
   labels-none nothing =
       let none_is : none ≡ (split (range from to text)).local = rw nothing at stands.is in
@@ -167,7 +167,7 @@ module _ {text stack places locals : List ℕ} {from to : ℕ} {c : Counts} {lim
 
   -- a local label
   module _ {places' locals' : List ℕ} {answer : Outcome} (there : span.tag ≡ 0 → ⊥) (gives-it : GivesLocal text (span.tag - 1) span.end stack locals places c limit locals' places' answer) where
-    pub labels-given : {c' : Counts} → answer ≡ Ok c' → LabelsStep text stack places locals from to c limit done places' locals' (Ok Normal c' done)
+    pub labels-given : {c' : Counts} → answer ≡ Ok c' → LabelsStep text stack places locals from to c limit done places' locals' (Go Normal c' done)
     unfolding machine.after_step mode_of
     labels-given is =
         record {

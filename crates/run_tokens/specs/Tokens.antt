@@ -50,7 +50,7 @@ pub record ReadsNormal (e : Env) (t t' : Tables) (c : Counts) (from to steps : �
 
 -- after what takes places in the roster, which is no step
 unfoldable pub roster_read : Outcome → ℕ → Read
-roster_read (Ok c) steps = Ok Roster c steps
+roster_read (Ok c) steps = Go Roster c steps
 roster_read (Err why) steps = Stop why steps
 
 -- a token is read as the definition reads it in this mode

@@ -2,8 +2,10 @@
 use Rattle.lines.proofs.Extending.{extends-full, extends-to}
 use Rattle.lines.proofs.then_text.Goals as goal
 
-pub returns-in-Some : goal.returns-in-Some
-returns-in-Some c = rw c.in-Some.is (extends-to c.add_text.ensures)
+pub returns : goal.returns
+returns c = rw c.in_ok-done.was (extends-to c.add_text.ensures)
 
-pub returns-in-None : goal.returns-in-None
-returns-in-None c = rw c.in-None.is (extends-full _ _)
+pub returns-in_err-done : goal.returns-in_err-done
+returns-in_err-done c =
+    rw c.from_residual.ensures
+    (rw c.in_err-done.was (extends-full _ _))

@@ -3,7 +3,8 @@ use Rattle.packed.specs.Pool.{range}
 use Rattle.run.proofs.Running.{room-there, images-there, pool-there, tree-there}
 use Rattle.run_tokens.proofs.Tokening.{token-place, token-hypothesis, token-frame, token-refused}
 use native.Mathlib.Omega.{arith}
-use native.Mathlib.Omega.{arith}
+use Rattle.std.proofs.Common.{ap, ◌∙◌, Ok}
+use Rattle.std.proofs.lemmas.Result.{err_from_is_err_and}
 use borrow.Author.Rules.{rules}
 use Rattle.run_tokens.proofs.run_token.Goals as goal
 
@@ -21,16 +22,18 @@ execute_step-requires c = let r = c.requires.running in record { used_le_pool = 
 
 pub returns-in-Place : goal.returns-in-Place
 unfolding range
-returns-in-Place c = token-place c.requires.running c.mark_span-mark.ensures c.prepare_step.ensures c.in-Place.is (omega (arith, c.requires.running.sized.seats)) c.run_place.ensures
+returns-in-Place c = token-place c.requires.running c.mark_span-mark.ensures c.prepare_step.ensures (c.in_ok-k.was ∙ ap Ok c.in-Place.is) (omega (arith, c.requires.running.sized.seats)) c.run_place.ensures
 
 pub returns-in-Hypothesis : goal.returns-in-Hypothesis
 unfolding range
-returns-in-Hypothesis c = token-hypothesis c.requires.running c.mark_span-mark.ensures c.prepare_step.ensures c.in-Hypothesis.is c.statement_offset-at.ensures c.push_hypothesis.ensures
+returns-in-Hypothesis c = token-hypothesis c.requires.running c.mark_span-mark.ensures c.prepare_step.ensures (c.in_ok-k.was ∙ ap Ok c.in-Hypothesis.is) c.statement_offset-at.ensures c.push_hypothesis.ensures
 
 pub returns-in-Frame : goal.returns-in-Frame
 unfolding range
-returns-in-Frame c = token-frame c.requires.running c.mark_span-mark.ensures c.prepare_step.ensures c.in-Frame.is (omega (arith, c.requires.running.sized.seats)) c.execute_step.ensures
+returns-in-Frame c = token-frame c.requires.running c.mark_span-mark.ensures c.prepare_step.ensures (c.in_ok-k.was ∙ ap Ok c.in-Frame.is) (omega (arith, c.requires.running.sized.seats)) c.execute_step.ensures
 
-pub returns-in-Err : goal.returns-in-Err
+pub returns-in_err-k : goal.returns-in_err-k
 unfolding range
-returns-in-Err c = token-refused c.requires.running c.mark_span-mark.ensures c.prepare_step.ensures c.in-Err.is
+returns-in_err-k c =
+    let p = err_from_is_err_and c.from_residual.result c.from_residual.ensures.1 in
+    rw (p.1, p.2) (token-refused c.requires.running c.mark_span-mark.ensures c.prepare_step.ensures c.in_err-k.was)
