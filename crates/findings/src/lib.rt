@@ -36,7 +36,8 @@ fn check_mode(mode: Mode) -> Result<(), Refusal>
             }
             Ok(())
         }
-        Mode::Beginning | Mode::Normal => Ok(()),
+        Mode::Beginning => Ok(()),
+        Mode::Normal => Ok(()),
     }
 }
 

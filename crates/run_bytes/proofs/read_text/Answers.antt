@@ -45,9 +45,6 @@ returns-in_err-s c =
     let p = err_from_is_err_and c.from_residual.result c.from_residual.ensures.1 in rw (p.1, p.2)
     (so-far-over c.loop-i.invariant c.loop-i-test.true refl (rw c.in_err-s.was at c.on_byte.ensures))
 
-pub overflow_add-i : goal.overflow_add-i
-overflow_add-i c = search (rules, c.loop-i-test.true, c.loop-i.invariant.running.checked.text_few)
-
 pub loop-i-smaller : goal.loop-i-smaller
 loop-i-smaller c = search (rules, c.loop-i-test.true)
 
