@@ -15,7 +15,7 @@ use Rattle.frames.specs.declared.Refusal.{Refusal}
 use Rattle.frames.specs.declared.Refusal.TheVariants.{TooMany}
 use Rattle.frames.proofs.Chains.{equal-true, below_true, below_false}
 use Rattle.facts.proofs.GoodFacts.{good-facts}
-use Rattle.facts.proofs.Kept.{refused-not-good}
+use Rattle.facts.proofs.Kept.{refused-not-good, refused-parts}
 use Rattle.facts.proofs.Unique.{good-answer, RefusedAt, verdict-decides}
 use Rattle.machine.specs.Answer.{Answer, accepted, refused, turned_away, not_provable, number, place, steps}
 use Rattle.machine.specs.Bench.{answer, answer_good, judged, ended}
@@ -62,7 +62,7 @@ away-small why at few = small (turned_away why at) few (omega arith)
 module _ (f : List ℕ) (why : Refusal) (at : ℕ) (e : verdict f ≡ Refused why at) where
   long-place : below 1048576 (length f) ≡ true → at ≡ 0
   unfolding verdict outcome refusal pick
-  long-place t = let v : Refused why at ≡ Refused TooMany 0 = sym e ∙ ap (λ (b : Bool). (pick b (refusal TooMany 0 nothing) (walk (length f + 1) f nothing 0)).verdict) t in cc
+  long-place t = let v : ◌≡◌ {A = Verdict} (Refused why at) (Refused TooMany 0) = sym e ∙ ap (λ (b : Bool). (pick b (refusal TooMany 0 nothing) (walk (length f + 1) f nothing 0)).verdict) t in (refused-parts v).1
 
   inside-place : at ≤ length f
   inside-place = by (verdict-decides f)
@@ -70,7 +70,7 @@ module _ (f : List ℕ) (why : Refusal) (at : ℕ) (e : verdict f ≡ Refused wh
       by : (verdict f ≡ Good (length (index f).symbols) (length (index f).statements)) ⊎ RefusedAt f (verdict f) → at ≤ length f
       by (inl g) = absurd (refused-not-good e g)
       by (inr r) =
-          let same : at ≡ r.place = cc in
+          let same : at ≡ r.place = (refused-parts (sym e ∙ r.is)).1 in
           let h = r.inside in
           let i = r.is in
           omega arith

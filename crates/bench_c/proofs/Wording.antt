@@ -14,13 +14,14 @@ use Rattle.frames.specs.Facts.{statement_of}
 use Rattle.frames.specs.declared.Refusal.{Refusal}
 use Rattle.facts.proofs.GoodFacts.{good-facts}
 use Rattle.facts.proofs.Unique.{good-answer}
+use Rattle.facts.proofs.Kept.{refused-parts}
 use Rattle.machine.proofs.Numbers.{file-number}
 use Rattle.answers.specs.Packed.{packed_answer}
 use Rattle.told.specs.declared.Told.{Told}
 use Rattle.told.specs.Says.{Says}
 use Rattle.bench.specs.Calls.{room_in, Verified}
 use Rattle.bench.proofs.Small.{answer-small, refused-place}
-use Rattle.walk.specs.Walk.{Walked, Refused, provable_from, provable, word_of, answer_word, walked_of, WalksAll}
+use Rattle.walk.specs.Walk.{Walked, provable_from, provable, word_of, answer_word, walked_of, WalksAll}
 use Rattle.bench_c.specs.Words.{VerifiedWord, walked_word, AllWords}
 
 module _ {f : List ℕ} {p : ℕ} {pool stack places pool' stack' places' : List ℕ} {t : Told}
@@ -67,8 +68,8 @@ module _ (f : List ℕ) where
   unfolding walked_of
   place_small (Ok sizes) e is = let z : ◌≡◌ {A = ℕ} 0 1 = cc in absurd (omega arith)
   place_small (Err away) {why} {at} e is =
-      let small = refused-place f why' at' e in
-      let same : at ≡ at' = cc in
+      let small = refused-place f away.why away.place e in
+      let same : at ≡ away.place = (refused-parts is).1 in
       omega arith
 
 module _ {f pool stack places answers pool' stack' places' answers' : List ℕ} {walked : Walked}

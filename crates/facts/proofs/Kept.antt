@@ -1,6 +1,6 @@
 -- The one induction over the walk. A property of outcomes holds of the walk's if it holds at the end of the file and at a
 -- faulty record, wherever an invariant holds that each faultless record keeps. So an invariant holds of a good file's index.
-use Rattle.std.proofs.Common.{Some, None, Ok, Err}
+use Rattle.std.proofs.Common.{Some, None, Result, Ok, Err}
 use Prim.Native.Nat.{ℕ, zero, suc, ◌+◌, ◌<◌}
 use mathlib.Core.Path.{◌≡◌, refl, ap}
 use mathlib.Core.Bool.{Bool, true, false}
@@ -12,6 +12,7 @@ use Rattle.frames.specs.Layout.{next_at}
 use Rattle.frames.specs.Verdict.{Index, nothing, Outcome, fault_at, after, refusal, end_verdict, at_end, decided, walk, outcome, verdict, index, Fault, Verdict, Good, Refused}
 use Rattle.frames.specs.Database.{GoodFile}
 use Rattle.frames.specs.declared.Refusal.{Refusal}
+use Rattle.frames.specs.declared.TurnedAway.{TurnedAway}
 use Rattle.frames.specs.declared.Refusal.TheVariants.{TooMany, NoProof}
 use Rattle.frames.proofs.Chains.{at_most-false}
 use Rattle.frames.proofs.Fine.{Faultless, fault-fine}
@@ -62,6 +63,19 @@ statements-in (Err away) = 0
 pub good-parts : {a b c d : ℕ} → Good a b ≡ Good c d → (a ≡ c) × (b ≡ d)
 unfolding symbols-in statements-in
 good-parts e = (ap symbols-in e, ap statements-in e)
+
+place-in : {A : Type 0} → Result A TurnedAway → ℕ
+place-in (Ok x) = 0
+place-in (Err away) = away.place
+
+why-in : {A : Type 0} → Refusal → Result A TurnedAway → Refusal
+why-in w (Ok x) = w
+why-in w (Err away) = away.why
+
+-- two refusals that are the same have the same reason and place
+pub refused-parts : {A : Type 0} {why why' : Refusal} {place place' : ℕ} → ◌≡◌ {A = Result A TurnedAway} (Refused why place) (Refused why' place') → (why ≡ why') × (place ≡ place')
+unfolding place-in why-in
+refused-parts {why} e = (ap (why-in why) e, ap place-in e)
 
 refusal-ends : (Inv : Index → ℕ → Type 0) (why : Refusal) (place : ℕ) (ix : Index) → Ends Inv (refusal why place ix)
 unfolding refusal

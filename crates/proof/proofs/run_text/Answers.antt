@@ -17,35 +17,5 @@ returns-in_err-s c =
     let p = err_from_is_err_and c.from_residual.result c.from_residual.ensures.1 in rw (p.1, p.2)
     (text-over (rw c.in_err-s.was at c.read_text.ensures))
 
-pub shape_of-seats : goal.shape_of-seats
-shape_of-seats c = c.seats-1.given ∙ c.seats-1.given
-
-pub shape_of-froms : goal.shape_of-froms
-shape_of-froms c = c.froms-1.given ∙ c.froms-1.given
-
-pub shape_of-tos : goal.shape_of-tos
-shape_of-tos c = c.tos-1.given ∙ c.tos-1.given
-
-pub shape_of-sets : goal.shape_of-sets
-shape_of-sets c = c.sets-1.given ∙ c.sets-1.given
-
-pub shape_of-numbers : goal.shape_of-numbers
-shape_of-numbers c = c.numbers-1.given ∙ c.numbers-1.given
-
-pub shape_of-pool : goal.shape_of-pool
-shape_of-pool c = c.pool-1.given ∙ c.pool-1.given
-
-pub shape_of-stack : goal.shape_of-stack
-shape_of-stack c = c.stack-1.given ∙ c.stack-1.given
-
-pub shape_of-places : goal.shape_of-places
-shape_of-places c = c.places-1.given ∙ c.places-1.given
-
-pub shape_of-locals : goal.shape_of-locals
-shape_of-locals c = c.locals-1.given ∙ c.locals-1.given
-
-pub shape_of-tree : goal.shape_of-tree
-shape_of-tree c = c.tree-1.given ∙ c.tree-1.given
-
 pub returns : goal.returns
 returns c = text-going (rw c.in_ok-s.was at c.read_text.ensures) c.end_text.ensures
