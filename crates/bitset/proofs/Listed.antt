@@ -210,3 +210,17 @@ pub zeros-told : {bits : ℕ} {ws : List ℕ} → Words bits ws → (answer : Bo
     → answer ≡ is_nil (members ws)
 zeros-told {ws = ws} w true h = sym (zero-words ws (λ i l. h i 0 (omega arith) l))
 zeros-told w false h = sym (some_word h.0 w (h.2 0))
+
+-- no more members are listed than numbers are looked at
+keep_few : (b : Bool) (n : ℕ) (xs : List ℕ) → length (keep b n xs) ≤ length xs + 1
+unfolding keep
+keep_few true n xs = omega arith
+keep_few false n xs = omega arith
+
+pub from_few : (ws : List ℕ) (k n : ℕ) → length (members_from ws k n) ≤ k
+unfolding members_from
+from_few ws zero n = omega arith
+from_few ws (suc k) n =
+    let one = keep_few (member ws n) n (members_from ws k (n + 1)) in
+    let others = from_few ws k (n + 1) in
+    omega arith

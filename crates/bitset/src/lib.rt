@@ -7,7 +7,7 @@
 ghost use Rattle.std.specs.Prelude.{◌≡◌, ◌%◌, ◌^◌};
 ghost use Rattle.std.specs.Iterator.{YieldsFirst, item_count};
 ghost use Rattle.bitset.specs.Sets.{member, members, insert, words_at, Words, Empty, Added, United, TellsEmpty};
-ghost use Rattle.bitset.specs.Iter.{left, first_of, rest_of};
+ghost use Rattle.bitset.specs.Iter.{left};
 
 use std::array;
 
@@ -140,11 +140,8 @@ impl Iterator for BitsetIter {
 
     ghost remaining = { item_count left };
 
-    // The first member that is left, if there is one.
-    fn next(&mut self) -> Option<usize>
-        ensures gives { result ≡ first_of (left self.old) }
-        ensures leaves { left self.new ≡ rest_of (left self.old) }
-    {
+    // The first member that is left, if there is one. By `next_gives` it is `first_of` what was left, and `rest_of` that is left (`next-told`, proofs/Steps.antt).
+    fn next(&mut self) -> Option<usize> {
         while self.at < Bitset::BITS {
             let word = self.at / 64;
             let ahead = self.set.words[word] >> (self.at % 64);
