@@ -1,7 +1,6 @@
 -- `BitsetIter::next` meets its contract. The invariant: the set keeps its four words, and what is left is what was left at the start. A word with nothing ahead
 -- is passed over (`ahead_none`), and else its lowest bit says the next member (`ahead-some`). The measure is what is left of the numbers.
-use mathlib.Core.Path.{◌≡◌, sym, ◌∙◌}
-use mathlib.Core.List.{◌∷◌}
+use mathlib.Core.Path.{sym, ◌∙◌}
 use native.Mathlib.Omega.{arith}
 use borrow.Author.Rules.{rules}
 use Rattle.bitset.specs.Sets.{size, Words}
