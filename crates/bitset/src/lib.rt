@@ -142,6 +142,7 @@ impl Iterator for BitsetIter {
 
     // The first member that is left, if there is one. By `next_gives` it is `first_of` what was left, and `rest_of` that is left (`next-told`, proofs/Steps.antt).
     fn next(&mut self) -> Option<usize> {
+        // Not an index that is counted: where nothing lies ahead in a word, the whole word is passed over.
         while self.at < Bitset::BITS {
             let word = self.at / 64;
             let ahead = self.set.words[word] >> (self.at % 64);
