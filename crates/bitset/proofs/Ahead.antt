@@ -62,12 +62,14 @@ ahead_within {ws = ws} n w b = go (dec_lt (n % 64 + count_trailing_zeros 64 (ahe
         let z : ◌≡◌ {A = ℕ} 0 1 = cc in
         omega arith
 
--- where something lies ahead it has a lowest bit
-ahead-lowest : {bits : ℕ} {ws : List ℕ} (n : ℕ) → Words bits ws → (ahead ws n ≡ 0 → ⊥)
-    → bit (ahead ws n) (count_trailing_zeros 64 (ahead ws n)) ≡ true
+-- what lies ahead is a word
+ahead-small : {bits : ℕ} {ws : List ℕ} (n : ℕ) → Words bits ws → ahead ws n < 2 ^ 64
 unfolding ahead
-ahead-lowest {ws = ws} n w f =
-    lowest-bit 64 (ahead ws n) (omega arith) (lt_of_le_of_lt (shr_le (get_or ws (n / 64) 0) (n % 64)) (w.small (n / 64)))
+ahead-small {ws = ws} n w = lt_of_le_of_lt (shr_le (get_or ws (n / 64) 0) (n % 64)) (w.small (n / 64))
+
+-- where something lies ahead it has a lowest bit
+ahead-lowest : {bits : ℕ} {ws : List ℕ} (n : ℕ) → Words bits ws → (ahead ws n ≡ 0 → ⊥) → bit (ahead ws n) (count_trailing_zeros 64 (ahead ws n)) ≡ true
+ahead-lowest {ws = ws} n w f = lowest-bit (ahead ws n) (omega arith) (ahead-small n w)
 
 -- where something lies ahead, its lowest bit says a member
 pub coming-member : {bits : ℕ} {ws : List ℕ} (n : ℕ) → Words bits ws → (ahead ws n ≡ 0 → ⊥) → member ws (coming ws n) ≡ true
@@ -85,5 +87,5 @@ ahead-some {ws = ws} n w f =
     let l = member_below ws (coming ws n) m in
     let t = ahead_within n w (ahead-lowest n w f) in
     passed ws (count_trailing_zeros 64 (ahead ws n)) n (omega arith)
-    (λ j h. ahead-bit ws n j (omega arith) ∙ below-lowest 64 (ahead ws n) j h)
+    (λ j h. ahead-bit ws n j (omega arith) ∙ below-lowest (ahead ws n) j (omega arith) (ahead-small n w) h)
     ∙ from_member ws (coming ws n) l m

@@ -1,7 +1,6 @@
 -- The definitions at work on small sets: what antt computes of them is what a reader expects.
 use mathlib.Core.Path.{◌≡◌, refl}
-use mathlib.Core.List.{List, [], ◌∷◌}
-use Prim.Native.Nat.{ℕ}
+use mathlib.Core.List.{[], ◌∷◌}
 use Rattle.bitset.specs.Sets.{bit, member, size, empty, insert, union, keep, members_from, members}
 
 -- two members of two words, listed upwards whatever the order of adding

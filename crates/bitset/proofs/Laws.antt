@@ -4,17 +4,18 @@ use mathlib.Core.Logic.{◌≢◌}
 use mathlib.Core.Bool.{Bool, true, false, ◌||◌, or-true, or-false}
 use mathlib.Core.List.{List, [], ◌∷◌}
 use Prim.Native.Nat.{ℕ, zero, suc, ◌+◌, ◌*◌, ◌/◌, ◌%◌, ◌^◌, ◌≤◌, ◌<◌}
+use native.Mathlib.Nat.{add-zero}
 use native.Mathlib.Omega.{arith}
 use native.Mathlib.Decide.{ℕ_discrete, dec_lt}
 use lib.Dec.{eqb, lit<}
 use lib.Bits.{bit_or, or_zero_r, or_lt}
 use lib.Pow.{pow-lt}
-use lib.ListN.{length, get_or, set, replicate, length-set, length-replicate, get_or-eq_default}
+use lib.ListN.{length, get_or, replicate, length-set, length-replicate, get_or-eq_default}
 use lib.Seq.{set_out, get_or-set_same, get_or-set_other, ext_get_or}
 use mir.Syntax.{w64}
 use mir.Val.{Fits}
 use borrow.Author.Tests.{eq-eqb, ne_eqb}
-use Rattle.bitset.specs.Sets.{bit, member, size, empty, insert, union, Words}
+use Rattle.bitset.specs.Sets.{bit, member, size, empty, insert, union, word_from, words_at, Words}
 use Rattle.bitset.proofs.Bits.{zero_bit, power-bit, or-bit, same_bits}
 
 -- no number past the size is a member
@@ -158,3 +159,8 @@ same-members {a = a} {b = b} wa wb q =
     (λ i h.
     same_bits 64 (get_or a i 0) (get_or b i 0) (wa.small i) (wb.small i)
     (λ j l. sym (word-bit a i j l) ∙ q (64 * i + j) ∙ word-bit b i j l))
+
+-- four words of a table, one by one
+pub four-words : (table : List ℕ) (i : ℕ) → words_at table i 4 ≡ get_or table i 0 ∷ get_or table (i + 1) 0 ∷ get_or table (i + 2) 0 ∷ get_or table (i + 3) 0 ∷ []
+unfolding words_at word_from
+four-words table i = ap (λ (j : ℕ). get_or table j 0 ∷ get_or table (i + 1) 0 ∷ get_or table (i + 2) 0 ∷ get_or table (i + 3) 0 ∷ []) (add-zero i)

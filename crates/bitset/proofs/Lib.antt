@@ -2,7 +2,7 @@
 pub mod Bits
 pub mod Laws
 pub mod Listed
-pub mod Joined
+pub mod Made
 pub mod Ahead
 pub mod Steps
 pub mod Promises

@@ -7,9 +7,11 @@ use mathlib.Core.List.{List, [], ◌∷◌, Memᴰ}
 use Prim.Native.Nat.{ℕ, zero, suc, ◌+◌, ◌-◌, ◌*◌, ◌/◌, ◌%◌, ◌≤◌, ◌<◌}
 use native.Mathlib.Omega.{arith}
 use native.Mathlib.Decide.{ℕ_discrete, dec_lt}
-use lib.Dec.{eqb, lit<}
+use lib.Dec.{lit<}
 use lib.ListN.{length, get_or}
 use borrow.Author.Tests.{eq-eqb, ne_eqb}
+use Rattle.std.specs.Bool.{MatchBool}
+use Rattle.std.specs.List.{AllWithin, HoldsAt}
 use Rattle.bitset.specs.Sets.{bit, member, size, Words, keep, members_from, members, is_nil, once, times, Rising, none, next}
 use Rattle.bitset.proofs.Bits.{zero_bit, same_bits}
 use Rattle.bitset.proofs.Laws.{past-size, member_below, word-bit}
@@ -201,3 +203,24 @@ first-listed (x ∷ xs) h = (x, Memᴰ.head refl)
 -- a set that is not empty has a member
 pub some-member : (ws : List ℕ) → is_nil (members ws) ≡ false → (m : ℕ) × (member ws m ≡ true)
 some-member ws h = let f = first-listed (members ws) h in (f.0, listed-member ws f.0 f.1)
+
+-- whether all words are zero tells whether no member is listed
+pub zeros-told : {bits : ℕ} {ws : List ℕ} → Words bits ws → (answer : Bool)
+    → MatchBool answer (AllWithin (λ w. w ≡ 0) ws 0 (length ws)) ((k : ℕ) × (k < length ws) × HoldsAt (λ w. w ≡ 0 → ⊥) ws k)
+    → answer ≡ is_nil (members ws)
+zeros-told {ws = ws} w true h = sym (zero-words ws (λ i l. h i 0 (omega arith) l))
+zeros-told w false h = sym (some_word h.0 w (h.2 0))
+
+-- no more members are listed than numbers are looked at
+keep_few : (b : Bool) (n : ℕ) (xs : List ℕ) → length (keep b n xs) ≤ length xs + 1
+unfolding keep
+keep_few true n xs = omega arith
+keep_few false n xs = omega arith
+
+pub from_few : (ws : List ℕ) (k n : ℕ) → length (members_from ws k n) ≤ k
+unfolding members_from
+from_few ws zero n = omega arith
+from_few ws (suc k) n =
+    let one = keep_few (member ws n) n (members_from ws k (n + 1)) in
+    let others = from_few ws k (n + 1) in
+    omega arith

@@ -1,6 +1,6 @@
 -- What each operation promises of the members, from what it does to the words.
-use mathlib.Core.Path.{◌≡◌, refl, sym, ap, ◌∙◌}
-use mathlib.Core.Bool.{Bool, true, false}
+use mathlib.Core.Path.{◌≡◌, sym, ap, ◌∙◌}
+use mathlib.Core.Bool.{Bool}
 use mathlib.Core.List.{List}
 use Prim.Native.Nat.{ℕ}
 use Rattle.bitset.specs.Sets.{member, empty, insert, union, members, is_nil, Empty, Added, United, TellsEmpty}

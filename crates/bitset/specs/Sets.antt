@@ -1,6 +1,7 @@
 -- Sets of numbers as lists of words of 64 bits, of any length: word i holds the members from 64 * i up to 64 * i + 63.
 -- Nothing here says how many words there are.
-use Rattle.std.specs.Prelude.{◌≡◌, Bool, true, false, ◌||◌, List, [], ◌∷◌, ℕ, zero, suc, ◌+◌, ◌*◌, ◌/◌, ◌%◌, ◌^◌, ◌≤◌, ◌<◌, eqb, length, get_or, set, replicate}
+use Rattle.std.specs.Prelude.{◌≡◌, Bool, true, false, ◌||◌, List, [], ◌∷◌, ℕ, zero, suc, ◌+◌, ◌*◌, ◌/◌, ◌%◌, ◌^◌, ◌≤◌, ◌<◌, eqb, length, get_or, set, replicate, map}
+use Rattle.std.specs.List.{range_with_len}
 use Rattle.std.specs.Int.Bits.{bit_or}
 
 -- whether bit k of the word w is set
@@ -28,6 +29,14 @@ unfoldable pub union : List ℕ → List ℕ → List ℕ
 union [] vs = vs
 union (a ∷ ws) [] = a ∷ ws
 union (a ∷ ws) (b ∷ vs) = bit_or a b ∷ union ws vs
+
+-- word k of a table from word i on; 0 past its end
+unfoldable pub word_from : List ℕ → ℕ → ℕ → ℕ
+word_from table i k = get_or table (i + k) 0
+
+-- n words of a table from word i on
+unfoldable pub words_at : List ℕ → ℕ → ℕ → List ℕ
+words_at table i n = map (word_from table i) (range_with_len 0 n)
 
 -- the words of a set of so many bits: as many words as that takes, each below 2 ^ 64.
 pub record Words (bits : ℕ) (ws : List ℕ) : Type 0 where

@@ -5,27 +5,24 @@
 #![tactic(auto)]
 
 ghost use Rattle.std.specs.Prelude.{◌≡◌, ◌%◌, ◌^◌};
-ghost use Rattle.bitset.specs.Sets.{member, members, Words, Empty, Added, United, TellsEmpty};
-ghost use Rattle.bitset.specs.Iter.{left, first_of, rest_of};
+ghost use Rattle.std.specs.Iterator.{YieldsFirst, item_count};
+ghost use Rattle.bitset.specs.Sets.{member, members, insert, words_at, Words, Empty, Added, United, TellsEmpty};
+ghost use Rattle.bitset.specs.Iter.{left};
+
+use std::array;
 
 // A set: bit n % 64 of word n / 64 says whether n is a member.
-#[derive(Clone, Copy)]
+#[derive(Clone, Copy, PartialEq, Eq)]
 pub struct Bitset {
     pub words: [u64; Bitset::WORDS],
 }
 
 // What `replace_bit` gives: whether the number was a member, and the set with it.
+// A struct: the clauses of `replace_bit` name both, and adding a variable gives back the set (docs/DECISIONS.md, "The shape of each place").
 #[derive(Clone, Copy)]
 pub struct Replaced {
     pub old: bool,
     pub set: Bitset,
-}
-
-// A member, or none where an iteration has come to its end.
-#[derive(Clone, Copy)]
-pub enum Member {
-    At(usize),
-    Nothing,
 }
 
 // An iteration over a set, upwards: the members from `at` on are still to come.
@@ -35,18 +32,21 @@ pub struct BitsetIter {
     pub at: usize,
 }
 
-// What `next` gives: the first member that was left, and the iteration after it.
-#[derive(Clone, Copy)]
-pub struct Step {
-    pub member: Member,
-    pub rest: BitsetIter,
-}
-
 // The word with one bit, that of k.
 fn mask(k: usize) -> u64
     ensures { result ≡ 2 ^ (k % 64) }
 {
     1u64 << (k % 64)
+}
+
+// Adds n to the set that these words are. A number past them is refused: they stay as they were.
+pub fn insert(words: &mut [u64], n: usize)
+    ensures { words.new ≡ insert words.old n }
+{
+    let word = n / 64;
+    if word < words.len() {
+        words[word] |= mask(n);
+    }
 }
 
 impl Bitset {
@@ -63,15 +63,22 @@ impl Bitset {
         }
     }
 
+    // The set whose words stand in a table from word `at` on. Past the table's end stand zeros.
+    pub fn from_table(table: &[u64], at: usize) -> Self
+        ensures { result.words ≡ words_at table.now at Bitset.WORDS }
+    {
+        let words = table.get(at..).unwrap_or(&[]);
+        Bitset {
+            words: array::from_fn(|k| words.get(k).copied().unwrap_or(0)),
+        }
+    }
+
     // The set with `bit` added. A number of BITS or more is refused: the set comes back as it was.
     pub fn set_bit(mut self, bit: usize) -> Self
         ensures adds { Added self.words bit result.words }
         ensures words { Words Bitset.BITS self.words }
     {
-        if bit < Bitset::BITS {
-            let w = bit / 64;
-            self.words[w] = self.words[w] | mask(bit);
-        }
+        insert(&mut self.words, bit);
         self
     }
 
@@ -95,7 +102,7 @@ impl Bitset {
     {
         let set = self.set_bit(bit);
         let old = self.has_bit(bit);
-        Replaced { old: old, set: set }
+        Replaced { old, set }
     }
 
     // Whether the set has no member.
@@ -103,14 +110,7 @@ impl Bitset {
         ensures tells { TellsEmpty self.words result }
         ensures words { Words Bitset.BITS self.words }
     {
-        let mut i = 0;
-        while i < Bitset::WORDS {
-            if self.words[i] != 0 {
-                return false;
-            }
-            i += 1;
-        }
-        true
+        self.words.iter().all(|word| *word == 0)
     }
 
     // The set of what is a member of one or of the other.
@@ -119,13 +119,9 @@ impl Bitset {
         ensures words { Words Bitset.BITS self.words }
         ensures others { Words Bitset.BITS other.words }
     {
-        let mut set = self;
-        let mut k = 0;
-        while k < Bitset::WORDS {
-            set.words[k] = set.words[k] | other.words[k];
-            k += 1;
+        Bitset {
+            words: array::from_fn(|k| self.words[k] | other.words[k]),
         }
-        set
     }
 
     // The iteration over all members, upwards.
@@ -137,32 +133,26 @@ impl Bitset {
     }
 }
 
-impl BitsetIter {
-    // The first member that is left, if there is one, and the iteration after it.
-    pub fn next(self) -> Step
-        ensures gives { result.member ≡ first_of (left self) }
-        ensures leaves { left result.rest ≡ rest_of (left self) }
-    {
-        let set = self.set;
-        let mut n = self.at;
-        while n < Bitset::BITS {
-            let w = n / 64;
-            let ahead = set.words[w] >> (n % 64);
+impl Iterator for BitsetIter {
+    type Item = usize;
+
+    ghost next_gives = { YieldsFirst left };
+
+    ghost remaining = { item_count left };
+
+    // The first member that is left, if there is one. By `next_gives` it is `first_of` what was left, and `rest_of` that is left (`next-told`, proofs/Steps.antt).
+    fn next(&mut self) -> Option<usize> {
+        // Not an index that is counted: where nothing lies ahead in a word, the whole word is passed over.
+        while self.at < Bitset::BITS {
+            let word = self.at / 64;
+            let ahead = self.set.words[word] >> (self.at % 64);
             if ahead != 0 {
-                let m = n + u64::trailing_zeros(ahead) as usize;
-                return Step {
-                    member: Member::At(m),
-                    rest: BitsetIter {
-                        set: set,
-                        at: m + 1,
-                    },
-                };
+                let member = self.at + ahead.trailing_zeros() as usize;
+                self.at = member + 1;
+                return Some(member);
             }
-            n = 64 * (w + 1);
+            self.at = 64 * (word + 1);
         }
-        Step {
-            member: Member::Nothing,
-            rest: BitsetIter { set: set, at: n },
-        }
+        None
     }
 }

@@ -3,7 +3,7 @@
 
 ghost use Rattle.std.specs.Prelude.{◌≡◌, true, false, ◌≤◌, ◌<◌};
 
-use bitset::{Bitset, BitsetIter, Member};
+use bitset::{Bitset, BitsetIter};
 
 // The descriptor of standard output.
 const STDOUT_FILENO: i32 = 1;
@@ -29,21 +29,9 @@ fn end_line() {
 }
 
 // The members that are left, in the order in which they come, and the end of the line.
-fn show(start: BitsetIter) {
-    let mut it = start;
-    loop {
-        let step = it.next();
-        let member = step.member;
-        let rest = step.rest;
-        match member {
-            Member::At(n) => {
-                number(n);
-                it = rest;
-            }
-            Member::Nothing => {
-                break;
-            }
-        }
+fn show(members: BitsetIter) {
+    for n in members {
+        number(n);
     }
     end_line();
 }

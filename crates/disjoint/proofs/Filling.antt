@@ -1,13 +1,12 @@
 -- Filling the disjoint table pair by pair.
-use Prim.Native.Nat.{ℕ, suc, ◌+◌, ◌-◌, ◌*◌, ◌/◌, ◌%◌, ◌^◌, ◌≤◌, ◌<◌}
+use Prim.Native.Nat.{ℕ, suc, ◌+◌, ◌*◌, ◌/◌, ◌%◌, ◌≤◌, ◌<◌}
 use mathlib.Core.Path.{◌≡◌, refl, sym, ap, ap₂, ◌∙◌}
 use mathlib.Core.Bool.{Bool, true, false, ◌||◌}
 use mathlib.Core.List.Memᴰ
 use mathlib.Core.List.{List, [], ◌∷◌, ◌++◌}
 use native.Mathlib.Omega.{arith}
 use lib.Dec.{eqb}
-use lib.Bits.{bit_or}
-use lib.ListN.{length, get_or, set, take, length-set}
+use lib.ListN.{length, get_or, take}
 use lib.Seq.{take-suc, take_all}
 use Rattle.frames.specs.Logic.{equal, either, both, any}
 use Rattle.frames.specs.Facts.{◌∈◌}
@@ -15,7 +14,7 @@ use Rattle.frames.proofs.Chains.{equal-yes, equal-true, equal-eqb}
 use Rattle.frames.proofs.Tells.{both_true}
 use Rattle.bitset.specs.Sets.{bit, member, size, insert}
 use Rattle.bitset.proofs.Bits.{zero_bit}
-use Rattle.bitset.proofs.Laws.{insert-member, insert-size, insert-refused}
+use Rattle.bitset.proofs.Laws.{insert-member, insert-size}
 use Rattle.machine.specs.Apply.{is_pair}
 use Rattle.machine.specs.Run.{members}
 use Rattle.packed.specs.Images.{set_of, number_in}
@@ -136,38 +135,3 @@ fills-next qs i h e before one =
 pub fills-done : {numbers table table' : List ℕ} (qs : List (ℕ × ℕ)) (i : ℕ) → length qs ≤ i → Fills numbers (take i qs) table table'
     → Fills numbers qs table table'
 fills-done qs i h f = rw (take_all i qs h) at f
-
--- the store of a word is the entry of a number into a row
-pub entry-stored : (table : List ℕ) (a b : ℕ) {m : ℕ} → m ≡ 2 ^ (b % 64)
-    → set table (4 * a + b / 64) (bit_or (get_or table (4 * a + b / 64) 0) m) ≡ insert table (256 * a + b)
-unfolding insert
-entry-stored table a b e =
-    let place : 4 * a + b / 64 ≡ (256 * a + b) / 64 = omega arith in
-    let spot : b % 64 ≡ (256 * a + b) % 64 = omega arith in
-    rw (e, place, spot) refl
-
--- past the end of the table nothing is stored
-pub entry_past : (table : List ℕ) (a b : ℕ) → length table ≤ 4 * a + b / 64 → table ≡ insert table (256 * a + b)
-unfolding size
-entry_past table a b h = sym (insert-refused table (256 * a + b) (omega arith))
-
-insert-length : (ws : List ℕ) (n : ℕ) → length (insert ws n) ≡ length ws
-unfolding insert
-insert-length ws n = length-set ws (n / 64) _
-
--- both numbers are entered
-pub enters-both : (numbers : List ℕ) (l r x y : ℕ) {table table' table'' : List ℕ} → x ≡ get_or numbers l 0 → y ≡ get_or numbers r 0 → 0 < x → 0 < y
-    → table' ≡ insert table (256 * (x - 1) + (y - 1)) → table'' ≡ insert table' (256 * (y - 1) + (x - 1)) → Enters numbers l r table table''
-enters-both numbers l r x y {table} {table'} ex ey hx hy one two =
-    record {
-      sized = ap length two ∙ insert-length table' _ ∙ ap length one ∙ insert-length table _;
-      enters = λ a b p q h g.
-          let left : x - 1 ≡ a = omega arith in
-          let right : y - 1 ≡ b = omega arith in
-          two ∙ ap (λ (w : List ℕ). insert w (256 * (y - 1) + (x - 1))) one ∙ rw (left, right) refl;
-    }
-
--- a pair whose members have not both a row enters nothing
-pub enters-nothing : (numbers : List ℕ) (l r : ℕ) (table : List ℕ)
-    → ((a b : ℕ) → get_or numbers l 0 ≡ a + 1 → get_or numbers r 0 ≡ b + 1 → a < 256 → b < 256 → ⊥) → Enters numbers l r table table
-enters-nothing numbers l r table no_row = record { sized = refl; enters = λ a b p q h g. absurd (no_row a b p q h g) }

@@ -1,12 +1,14 @@
 -- The disjoint table: its rows as one set of 256 times 256 numbers, and what it tells of variables.
-use Prim.Native.Nat.{ℕ, zero, suc, ◌+◌, ◌*◌, ◌/◌, ◌%◌, ◌≤◌, ◌<◌}
+use Prim.Native.Nat.{ℕ, zero, suc, ◌+◌, ◌-◌, ◌*◌, ◌/◌, ◌%◌, ◌^◌, ◌≤◌, ◌<◌, min}
 use mathlib.Core.Path.{◌≡◌, refl, sym, ap, ap₂, ◌∙◌}
 use mathlib.Core.List.Memᴰ
-use mathlib.Core.List.{List, [], ◌∷◌, ◌++◌}
+use mathlib.Core.List.{List, ◌++◌}
 use native.Mathlib.Omega.{arith}
-use lib.ListN.{length, get_or}
+use native.Mathlib.Decide.{ℕ_discrete}
+use lib.ListN.{length, get_or, get_or-eq_default}
 use Rattle.frames.specs.Facts.{◌∈◌}
-use Rattle.bitset.specs.Sets.{bit, member}
+use Rattle.bitset.specs.Sets.{bit, member, words_at}
+use Rattle.bitset.proofs.Laws.{four-words}
 use Rattle.machine.specs.Apply.{is_pair, disjoint}
 use Rattle.machine.specs.Run.{members}
 use Rattle.packed.specs.Images.{set_of, number_in}
@@ -66,8 +68,22 @@ tabled-disjoint {pairs} {vs} u v t known m n few =
     (λ q k. let l = known _ (pair_left k) in let r = known _ (pair-right k) in
     rw (number-equal vs u q.0 m l, number-equal vs v q.1 n r, number-equal vs u q.1 m r, number-equal vs v q.0 n l) refl)
 
--- a row by its four words
-pub row_words : (table : List ℕ) (n : ℕ) {a b c d : ℕ} → a ≡ get_or table (4 * n + 0) 0 → b ≡ get_or table (4 * n + 1) 0 → c ≡ get_or table (4 * n + 2) 0
-    → d ≡ get_or table (4 * n + 3) 0 → a ∷ b ∷ c ∷ d ∷ [] ≡ set_of table n
+-- a row by the words from its place on, or from a place past the table's end where its own is past that too
+place_word : (table : List ℕ) (n at k : ℕ) → at ≡ min (n * 4) (2 ^ 64 - 1) → length table < 2 ^ 64 → get_or table (at + k) 0 ≡ get_or table (4 * n + k) 0
+place_word table n at k e h = told (ℕ_discrete at (4 * n))
+  where
+    told : Dec (at ≡ 4 * n) → get_or table (at + k) 0 ≡ get_or table (4 * n + k) 0
+    told (yes is) = ap (λ (i : ℕ). get_or table (i + k) 0) is
+    told (no far) = get_or-eq_default table 0 (omega arith) ∙ sym (get_or-eq_default table 0 (omega arith))
+
+pub row_words : (table : List ℕ) (n at : ℕ) (words : List ℕ) → words ≡ words_at table at 4 → at ≡ min (n * 4) (2 ^ 64 - 1) → length table < 2 ^ 64 → words ≡ set_of table n
 unfolding set_of
-row_words table n ea eb ec ed = let first : 4 * n + 0 ≡ 4 * n = omega arith in cc
+row_words table n at words is e h =
+    let a = four-words table at in
+    let b = place_word table n at 0 e h in
+    let c = place_word table n at 1 e h in
+    let d = place_word table n at 2 e h in
+    let f = place_word table n at 3 e h in
+    let none : at + 0 ≡ at = omega arith in
+    let first : 4 * n + 0 ≡ 4 * n = omega arith in
+    cc

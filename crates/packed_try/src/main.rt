@@ -5,13 +5,12 @@
 
 ghost use Rattle.std.specs.Prelude.{◌≡◌, length};
 
-use bitset::{Bitset, BitsetIter, Member};
+use bitset::{Bitset, BitsetIter};
 use frames::numbers::SymbolNo;
 use frames::record::is_assertion;
 use frames::refer::entry;
 use frames::fields;
 use packed::images;
-use std::num::{wrapping_add_usize, wrapping_sub_usize};
 
 // The descriptors of standard input and output.
 const STDIN_FILENO: i32 = 0;
@@ -60,45 +59,20 @@ fn mix(sum: u16, b: u8) -> u16 {
 
 // The checksum of a range of the pool.
 fn checksum(pool: &[u8], from: usize, to: usize) -> u16 {
-    let mut sum: u16 = 0;
-    let mut i = from;
-    while i < to {
-        if i < pool.len() {
-            sum = mix(sum, pool[i]);
-        }
-        i += 1;
-    }
-    sum
+    let range = pool.get(from..to.min(pool.len())).unwrap_or(&[]);
+    range.iter().fold(0, |sum, b| mix(sum, *b))
 }
 
 // The length and the checksum of a range.
 fn say_range(pool: &[u8], from: usize, to: usize) {
-    say(wrapping_sub_usize(to, from));
+    say(to.wrapping_sub(from));
     say(checksum(pool, from, to) as usize);
 }
 
 // How many members a set has, and their sum.
-fn say_members(start: BitsetIter) {
-    let mut it = start;
-    let mut count: usize = 0;
-    let mut sum: usize = 0;
-    loop {
-        let step = it.next();
-        let member = step.member;
-        let rest = step.rest;
-        match member {
-            Member::At(n) => {
-                count = wrapping_add_usize(count, 1);
-                sum = wrapping_add_usize(sum, n);
-                it = rest;
-            }
-            Member::Nothing => {
-                break;
-            }
-        }
-    }
-    say(count);
-    say(sum);
+fn say_members(members: BitsetIter) {
+    say(members.count());
+    say(members.fold(0, |sum, n| sum.wrapping_add(n)));
 }
 
 // Binds a symbol, if its number is one.
@@ -118,10 +92,8 @@ fn bind(
 
 // Binds every symbol to the empty text.
 fn clear(froms: &mut [u32], tos: &mut [u32], sets: &mut [u64]) {
-    let mut s = 0;
-    while s < 4096 {
+    for s in 0..4096 {
         bind(froms, tos, sets, s, 0, 0, Bitset::new());
-        s += 1;
     }
 }
 
@@ -183,12 +155,10 @@ fn bind_all(
     clear(froms, tos, sets);
     let n = fields::hypotheses(file, entry(statements, p));
     let mut used = 0;
-    let mut i = 0;
-    while i < n {
+    for i in 0..n {
         used = bind_one(
             file, symbols, statements, p, i, pool, used, froms, tos, sets,
         );
-        i += 1;
     }
     used
 }
@@ -205,16 +175,12 @@ fn others(
     from: usize,
     to: usize,
 ) -> usize {
-    let mut found: usize = 0;
-    let mut q = 0;
-    while q < count {
-        let at = entry(statements, q);
-        if packed_calls::packed_is_substituted(file, symbols, at, froms, tos, pool, from, to) == 1 {
-            found = wrapping_add_usize(found, 1);
-        }
-        q += 1;
-    }
-    found
+    (0..count)
+        .filter(|q| {
+            let at = entry(statements, *q);
+            packed_calls::packed_is_substituted(file, symbols, at, froms, tos, pool, from, to) == 1
+        })
+        .count()
 }
 
 // How many statements have a range as their symbols.
@@ -227,16 +193,12 @@ fn raws(
     from: usize,
     to: usize,
 ) -> usize {
-    let mut found: usize = 0;
-    let mut q = 0;
-    while q < count {
-        let at = entry(statements, q);
-        if packed_calls::packed_is_spelled(file, symbols, at, pool, from, to) == 1 {
-            found = wrapping_add_usize(found, 1);
-        }
-        q += 1;
-    }
-    found
+    (0..count)
+        .filter(|q| {
+            let at = entry(statements, *q);
+            packed_calls::packed_is_spelled(file, symbols, at, pool, from, to) == 1
+        })
+        .count()
 }
 
 // Where the two texts of a statement end: its symbols as substituted, and after them its symbols as they are.
@@ -314,7 +276,7 @@ fn try_limits(
     used: usize,
     end: usize,
 ) {
-    let short = wrapping_sub_usize(end, 1);
+    let short = end.wrapping_sub(1);
     let less = packed_calls::packed_substitute(file, symbols, at, froms, tos, pool, used, short);
     say(truth(less == packed_calls::FULL));
     bind(froms, tos, sets, s, 1, 0, Bitset::new());
@@ -335,7 +297,7 @@ fn try_copy(pool: &mut [u8], used: usize, end: usize) {
     let answer = packed_calls::packed_copy(pool, end, room, used, end);
     let last = kept(answer, end, room);
     say_range(pool, end, last);
-    let short = wrapping_sub_usize(last, 1);
+    let short = last.wrapping_sub(1);
     let less = packed_calls::packed_copy(pool, end, short, used, end);
     say(truth(less == packed_calls::FULL));
     let turned = packed_calls::packed_copy(pool, end, room, end, used);
@@ -415,10 +377,8 @@ fn try_all(
     tos: &mut [u32],
     sets: &mut [u64],
 ) {
-    let mut p = 0;
-    while p < count {
+    for p in 0..count {
         try_one(file, symbols, statements, count, p, pool, froms, tos, sets);
-        p += 1;
     }
 }
 

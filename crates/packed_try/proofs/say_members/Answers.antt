@@ -1,12 +1,13 @@
--- `packed_try::say_members` ends: each member that `next` gives leaves fewer to come (`step_less`), and that count is the measure.
-use Rattle.std.proofs.Common.{length, sym, ap, ◌∙◌, arith}
-use Rattle.bitset.specs.Iter.{left}
-use Rattle.bitset.proofs.Steps.{step_less}
+-- `packed_try::say_members`: the count of what is left fits, since a set has 256 numbers (`left_few`).
+use mathlib.Core.Logic.{inl}
+use Rattle.std.proofs.Common.{◌≡◌, length, rules, arith}
+use Rattle.bitset.specs.Sets.{size}
+use Rattle.bitset.proofs.Steps.{left_few}
 use Rattle.packed_try.proofs.say_members.Goals as goal
 
-pub loop-n-smaller : goal.loop-n-smaller
-loop-n-smaller c =
-    let it = c.loop-n.it in
-    let less = step_less (left it) c.in-At.n (sym c.in-At.is ∙ c.next-step.ensures.gives) in
-    let rest = ap length c.next-step.ensures.leaves in
-    omega arith
+pub count-requires-clause-fits : goal.count-requires-clause-fits
+unfolding size
+count-requires-clause-fits c =
+    let words : length c.args.members.set.words ≡ 4 = search rules in
+    let few = left_few c.args.members in
+    inl (omega arith)

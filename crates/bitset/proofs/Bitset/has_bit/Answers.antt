@@ -2,7 +2,7 @@
 use borrow.Author.Rules.{rules}
 use mathlib.Core.Path.{sym}
 use native.Mathlib.Omega.{arith}
-use Rattle.bitset.specs.Sets.{member, bit, Words}
+use Rattle.bitset.specs.Sets.{member, bit}
 use Rattle.bitset.proofs.Laws.{array-words, past-size}
 use Rattle.bitset.proofs.Bitset.has_bit.Goals as goal
 

@@ -1,6 +1,10 @@
--- `disjoint::table::row` meets its contract: the four words of a row (`row_words`).
+-- `disjoint::table::row` meets its contract: the words from the row's place on, which are 0 where that is past the table (`row_words`).
+use Prim.Native.Nat.{◌<◌, ◌^◌}
+use Rattle.std.proofs.Common.{rules, length}
 use Rattle.disjoint.proofs.Tabling.{row_words}
 use Rattle.disjoint.proofs.table.row.Goals as goal
 
 pub returns : goal.returns
-returns c = row_words c.args.table.now c.args.n c.word_at-a.ensures c.word_at-b.ensures c.word_at-c.ensures c.word_at-d.ensures
+returns c =
+    let short : length c.args.table.now < 2 ^ 64 = search rules in
+    search (rules, row_words)
