@@ -20,7 +20,7 @@ use Rattle.told.specs.Says.{room_lent}
 use Rattle.bench.specs.Calls.{room_in}
 use Rattle.bench.proofs.Checking.{filed}
 use Rattle.verdict_text.specs.Text.{refused_line}
-use Rattle.walk.specs.Walk.{Walked, Refused, provable, answer_word, answer_words, walked_of, laid_answers, WalksAll}
+use Rattle.walk.specs.Walk.{Walked, provable, answer_word, answer_words, walked_of, laid_answers, WalksAll}
 use Rattle.walk.proofs.Promise.{each-answer}
 use Rattle.reply.specs.Output.{greatest, checked_text, text_of, output_of}
 use Rattle.reply.specs.Replies.{Listed, Held, Counted}

@@ -7,7 +7,7 @@ use Rattle.frames.specs.Verdict.{verdict, Checked, Verdict, Refused, Good}
 use Rattle.frames.specs.Database.{database}
 use Rattle.frames.specs.declared.Refusal.{Refusal}
 use Rattle.machine.specs.Memory.{Room}
-use Rattle.walk.specs.Walk.{Refused, walked_of, laid_answers, AllAnswered, WalksFile}
+use Rattle.walk.specs.Walk.{walked_of, laid_answers, AllAnswered, WalksFile}
 
 module _ {f syms stmts syms' stmts' : List ℕ} {v : Verdict} (ch : Checked f syms stmts syms' stmts' v) where
   pub walk_refused : {why : Refusal} {at : ℕ} {room : Room} {answers : List ℕ} → v ≡ Refused why at

@@ -13,8 +13,8 @@ slice_bounds-walk_checked-end c = symbols-length c.check.ensures c.in_ok-sizes.w
 pub slice_bounds-statements-end : goal.slice_bounds-statements-end
 slice_bounds-statements-end c = statements-fit c.check.ensures c.in_ok-sizes.was c.offsets-statements.ensures
 
-pub slice_bounds-walk_checked-end : goal.slice_bounds-walk_checked-end
-slice_bounds-walk_checked-end c = statements-length c.check.ensures c.in_ok-sizes.was
+pub slice_bounds-walk_checked-end-2 : goal.slice_bounds-walk_checked-end-2
+slice_bounds-walk_checked-end-2 c = statements-length c.check.ensures c.in_ok-sizes.was
 
 pub walk_checked-requires : goal.walk_checked-requires
 walk_checked-requires c = filed c.check.ensures c.in_ok-sizes.was
