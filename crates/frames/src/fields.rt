@@ -15,16 +15,14 @@ use crate::{record, refer};
 pub fn symbol_offset(symbols: &[u32], s: SymbolNo) -> u32
     ensures { result ≡ get_or symbols.now s.0 0 }
 {
-    let n = s.0;
-    refer::entry(symbols, n)
+    refer::entry(symbols, s.0)
 }
 
 // The offset of a statement's record; 0 for a number that is not defined.
 pub fn statement_offset(statements: &[u32], p: StatementNo) -> u32
     ensures { result ≡ get_or statements.now p.0 0 }
 {
-    let n = p.0;
-    refer::entry(statements, n)
+    refer::entry(statements, p.0)
 }
 
 // The class of a symbol: 0 constant, 1 variable.

@@ -3,38 +3,30 @@
 ghost use Rattle.std.specs.Prelude.{◌≡◌, ◌<◌, ◌^◌, ◌+◌, length, take, drop};
 ghost use Rattle.frames.specs.Layout.{byte, u16, u32};
 
-fn wide(b: u8) -> usize
-    ensures { (result ≡ b) × (result < 256) }
-{
-    b as usize
-}
-
+// A byte of the file.
+#[tactic(auto, unfolding(crate::specs::Layout::byte))]
 pub fn byte_at(file: &[u8], i: usize) -> usize
     ensures { (result ≡ byte file.now i) × (result < 256) }
 {
-    if i < file.len() { wide(file[i]) } else { 0 }
+    file.get(i).copied().unwrap_or(0) as usize
 }
 
 // A number of two bytes that are in the file.
+#[tactic(auto, unfolding(crate::specs::Layout::u16, crate::specs::Layout::byte))]
 fn near_u16(file: &[u8], i: usize) -> usize
     requires { i + 1 < length file.now }
     ensures { (result ≡ u16 file.now i) × (result < 65536) }
 {
-    let low = wide(file[i]);
-    let high = wide(file[i + 1]);
-    low + 256 * high
+    u16::from_le_bytes([file[i], file[i + 1]]) as usize
 }
 
 // A number of four bytes that are in the file.
+#[tactic(auto, unfolding(crate::specs::Layout::u32, crate::specs::Layout::u16, crate::specs::Layout::byte))]
 fn near_u32(file: &[u8], i: usize) -> usize
     requires { i + 3 < length file.now }
     ensures { (result ≡ u32 file.now i) × (result < 4294967296) }
 {
-    let first = wide(file[i]);
-    let second = wide(file[i + 1]);
-    let third = wide(file[i + 2]);
-    let fourth = wide(file[i + 3]);
-    first + 256 * second + 65536 * (third + 256 * fourth)
+    u32::from_le_bytes([file[i], file[i + 1], file[i + 2], file[i + 3]]) as usize
 }
 
 pub fn u16_at(file: &[u8], i: usize) -> usize
@@ -61,14 +53,7 @@ pub fn u32_at(file: &[u8], i: usize) -> usize
 pub fn part(file: &[u8], from: usize, size: usize) -> &[u8]
     ensures { result.now ≡ take size (drop from file.now) }
 {
-    if from <= file.len() {
-        let left = file.len() - from;
-        if size <= left {
-            let end = from + size;
-            return &file[from..end];
-        }
-        return &file[from..];
-    }
-    let end = file.len();
-    &file[end..]
+    let from = from.min(file.len());
+    let size = size.min(file.len() - from);
+    &file[from..from + size]
 }

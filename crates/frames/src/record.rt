@@ -10,46 +10,38 @@ const FIXED: [usize; 7] = [0, 1, 8, 6, 6, 6, 0];
 pub fn fixed_size(kind: usize) -> usize
     ensures { (result ≡ fixed_size kind) × (result ≤ 8) }
 {
-    if kind < 7 { FIXED[kind] } else { 0 }
+    FIXED.get(kind).copied().unwrap_or(0)
 }
 
 // $a and $p.
+#[tactic(auto, unfolding(crate::specs::Layout::asserts, crate::specs::Logic::either, crate::specs::Logic::equal))]
 pub fn is_assertion(kind: usize) -> bool
     ensures { result ≡ asserts kind }
 {
-    if kind == 4 {
-        return true;
-    }
-    kind == 5
+    kind == 4 || kind == 5
 }
 
 // $f and $e.
+#[tactic(auto, unfolding(crate::specs::Layout::supposes, crate::specs::Logic::either, crate::specs::Logic::equal))]
 pub fn is_hypothesis(kind: usize) -> bool
     ensures { result ≡ supposes kind }
 {
-    if kind == 2 {
-        return true;
-    }
-    kind == 3
+    kind == 2 || kind == 3
 }
 
 // $e, $a and $p.
+#[tactic(auto, unfolding(crate::specs::Layout::lists_symbols, crate::specs::Logic::either, crate::specs::Logic::equal))]
 pub fn lists_symbols(kind: usize) -> bool
     ensures { result ≡ lists_symbols kind }
 {
-    if kind == 3 {
-        return true;
-    }
-    is_assertion(kind)
+    kind == 3 || is_assertion(kind)
 }
 
+#[tactic(auto, unfolding(crate::specs::Layout::is_statement, crate::specs::Logic::either, crate::specs::Logic::equal))]
 pub fn is_statement(kind: usize) -> bool
     ensures { result ≡ is_statement kind }
 {
-    if is_hypothesis(kind) {
-        return true;
-    }
-    is_assertion(kind)
+    is_hypothesis(kind) || is_assertion(kind)
 }
 
 pub fn length_at(file: &[u8], at: u32) -> usize
@@ -154,15 +146,11 @@ pub fn rest_from(file: &[u8], at: u32) -> usize
     any_listed_from(file, at) + 2 * listed_count(file, at)
 }
 
+#[tactic(auto, unfolding(crate::specs::Layout::rest_size))]
 pub fn rest_size(file: &[u8], at: u32) -> usize
     ensures { (result ≡ rest_size file.now at) × (result < 2 ^ 34) }
 {
-    let next = next_at(file, at);
-    let from = rest_from(file, at);
-    if from <= next {
-        return next - from;
-    }
-    0
+    next_at(file, at).saturating_sub(rest_from(file, at))
 }
 
 // The name of a symbol, for which no lists are counted.
@@ -170,32 +158,23 @@ fn symbol_name(file: &[u8], at: u32) -> &[u8]
     requires { kind_at file.now at ≡ 1 }
     ensures { result.now ≡ rest_at file.now at }
 {
-    let from = at as usize + 7;
-    let size = length_at(file, at);
-    if 3 <= size {
-        return part(file, from, size - 3);
-    }
-    part(file, from, 0)
+    part(file, at as usize + 7, length_at(file, at).saturating_sub(3))
 }
 
 // The name, label or text of any record.
+#[tactic(auto, unfolding(crate::specs::Layout::rest_at))]
 pub fn any_rest_at(file: &[u8], at: u32) -> &[u8]
     ensures { result.now ≡ rest_at file.now at }
 {
-    let from = rest_from(file, at);
-    let size = rest_size(file, at);
-    part(file, from, size)
+    part(file, rest_from(file, at), rest_size(file, at))
 }
 
 // The same; a symbol's name is found without counting lists.
 pub fn rest_at(file: &[u8], at: u32) -> &[u8]
     ensures { result.now ≡ rest_at file.now at }
 {
-    let o = at as usize;
-    if o + 5 < file.len() {
-        if kind_at(file, at) == 1 {
-            return symbol_name(file, at);
-        }
+    if at as usize + 5 < file.len() && kind_at(file, at) == 1 {
+        return symbol_name(file, at);
     }
     any_rest_at(file, at)
 }

@@ -1,5 +1,5 @@
 // What the numbers in a record refer to: a symbol's class, a statement's kind, whether a hypothesis is active.
-ghost use Rattle.std.specs.Prelude.{◌≡◌, ◌<◌, get_or};
+ghost use Rattle.std.specs.Prelude.{◌≡◌, ◌<◌, get_or, set};
 ghost use Rattle.frames.specs.Layout.{symbols_at, hyps_at, pairs_at, typecode_at, variable_at};
 ghost use Rattle.frames.specs.Table.{class_of, constant, variable, within, active, float_of};
 
@@ -10,11 +10,27 @@ use crate::record::{
     symbol_count, symbols_from,
 };
 
+// An entry of a table; `none` past its end.
+pub fn entry_or<T: Copy>(table: &[T], i: usize, none: T) -> T
+    ensures { result ≡ get_or table.now i none }
+{
+    table.get(i).copied().unwrap_or(none)
+}
+
 // An entry of a table of offsets; 0 past its end.
 pub fn entry(table: &[u32], i: usize) -> u32
     ensures { result ≡ get_or table.now i 0 }
 {
-    if i < table.len() { table[i] } else { 0 }
+    entry_or(table, i, 0)
+}
+
+// Lays an entry into a table; past the table's end nothing. (Written with `get_mut` it is no plainer, and the check leaves two goals.)
+pub fn lay<T: Copy>(table: &mut [T], i: usize, x: T)
+    ensures { table.new ≡ set table.old i x }
+{
+    if i < table.len() {
+        table[i] = x;
+    }
 }
 
 // The i-th symbol of a statement, the typecode first; 0 past the last.
@@ -74,14 +90,14 @@ pub fn pair_of(file: &[u8], at: u32, i: usize) -> Pair
 }
 
 // The class of a symbol: 0 constant, 1 variable, 2 where the number is not defined.
+#[tactic(auto, unfolding(crate::specs::Table::class_of, crate::specs::Logic::pick, crate::specs::Logic::below))]
 pub fn class_of(file: &[u8], symbols: &[u32], s: SymbolNo) -> usize
     ensures { result ≡ class_of file.now symbols.now s.0 }
 {
-    let n = s.0;
-    if n < symbols.len() {
-        return class_at(file, symbols[n]);
+    match symbols.get(s.0) {
+        Some(at) => class_at(file, *at),
+        None => 2,
     }
-    2
 }
 
 pub fn is_constant(file: &[u8], symbols: &[u32], s: SymbolNo) -> bool
@@ -97,40 +113,27 @@ pub fn is_variable(file: &[u8], symbols: &[u32], s: SymbolNo) -> bool
 }
 
 // The scope of a $f or $e reaches statement p: its end is 4294967295 or above p.
+#[tactic(auto, unfolding(crate::specs::Table::within, crate::specs::Logic::either, crate::specs::Logic::equal, crate::specs::Logic::below))]
 fn reaches(end: usize, p: usize) -> bool
     ensures { result ≡ within end p }
 {
-    if end == 4294967295 {
-        return true;
-    }
-    p < end
+    end == 4294967295 || p < end
 }
 
 // Statement s is a $f or $e that is active at statement p.
+#[tactic(auto, unfolding(crate::specs::Table::active, crate::specs::Logic::both, crate::specs::Logic::below))]
 pub fn is_active(file: &[u8], statements: &[u32], p: StatementNo, s: StatementNo) -> bool
     ensures { result ≡ active file.now statements.now p.0 s.0 }
 {
-    let n = s.0;
-    let own = p.0;
-    if own <= n {
-        return false;
-    }
-    let at = entry(statements, n);
-    if !is_hypothesis(kind_at(file, at)) {
-        return false;
-    }
-    reaches(scope_end_at(file, at), own)
+    let at = entry(statements, s.0);
+    s.0 < p.0 && is_hypothesis(kind_at(file, at)) && reaches(scope_end_at(file, at), p.0)
 }
 
 // Statement h is a $f of variable v.
+#[tactic(auto, unfolding(crate::specs::Table::float_of, crate::specs::Logic::both, crate::specs::Logic::equal))]
 pub fn is_float_of(file: &[u8], statements: &[u32], v: SymbolNo, h: StatementNo) -> bool
     ensures { result ≡ float_of file.now statements.now v.0 h.0 }
 {
-    let of = v.0;
     let at = entry(statements, h.0);
-    if kind_at(file, at) != 2 {
-        return false;
-    }
-    let x = float_variable(file, at);
-    x.0 == of
+    kind_at(file, at) == 2 && float_variable(file, at).0 == v.0
 }
