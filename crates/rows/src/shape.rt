@@ -1,11 +1,12 @@
 // Rows 1 and 2: the shape of a record, and the limits.
+#![tactic(auto, unfolding(frames::specs::Logic::one_of, frames::specs::Logic::either, frames::specs::Logic::both, frames::specs::Logic::no, frames::specs::Logic::equal, frames::specs::Logic::below, frames::specs::Logic::at_most, frames::specs::Table::unknown_kind, frames::specs::Table::bad_rest, frames::specs::Table::no_symbols))]
+
 ghost use Rattle.std.specs.Prelude.{◌≡◌, ◌∷◌, [], ◌<◌, length};
 ghost use Rattle.frames.specs.Logic as words;
 ghost use Rattle.frames.specs.Logic.{below, at_most, equal, one_of};
 ghost use Rattle.frames.specs.Layout.{u32, is_statement};
 ghost use Rattle.frames.specs.Table.{unknown_kind, bad_rest, no_symbols, bad_record, too_many};
 
-use frames::logic::{both, either, no};
 use frames::record::{
     class_at, hyp_count, is_statement, kind_at, length_at, listed_count, lists_symbols, next_at,
     pair_count, rest_from, rest_size,
@@ -14,31 +15,28 @@ use frames::record::{
 fn unknown_kind(kind: usize) -> bool
     ensures { result ≡ unknown_kind kind }
 {
-    either(kind == 0, 6 < kind)
+    kind == 0 || 6 < kind
 }
 
 // A name or label does not have 1 to 64 bytes.
 fn bad_rest(kind: usize, size: usize) -> bool
     ensures { result ≡ bad_rest kind size }
 {
-    both(no(kind == 6), either(size == 0, 64 < size))
+    kind != 6 && (size == 0 || 64 < size)
 }
 
 // n is 0 where it must be at least 1.
 fn no_symbols(kind: usize, n: usize) -> bool
     ensures { result ≡ no_symbols kind n }
 {
-    both(lists_symbols(kind), n == 0)
+    lists_symbols(kind) && n == 0
 }
 
 // Whether a body is not of its layout, on the record's numbers.
 fn layout_row(next: usize, from: usize, kind: usize, n: usize, size: usize) -> bool
     ensures { result ≡ one_of (below next from ∷ no_symbols kind n ∷ bad_rest kind size ∷ []) }
 {
-    either(
-        next < from,
-        either(no_symbols(kind, n), either(bad_rest(kind, size), false)),
-    )
+    next < from || no_symbols(kind, n) || bad_rest(kind, size)
 }
 
 // Row 1 on the record's numbers.
@@ -52,11 +50,7 @@ fn record_row(
 ) -> bool
     ensures { result ≡ one_of (below len next ∷ below length 2 ∷ unknown_kind kind ∷ words.both (equal kind 1) (below 1 class) ∷ layout ∷ []) }
 {
-    let body = either(both(kind == 1, 1 < class), either(layout, false));
-    either(
-        len < next,
-        either(length < 2, either(unknown_kind(kind), body)),
-    )
+    len < next || length < 2 || unknown_kind(kind) || (kind == 1 && 1 < class) || layout
 }
 
 // 1 BadRecord.
@@ -86,12 +80,12 @@ fn limit_row(
 ) -> bool
     ensures { result ≡ one_of (words.both (equal kind 1) (at_most 4096 symbols) ∷ words.both (is_statement kind) (at_most 4096 statements) ∷ below 64 h ∷ below 512 d ∷ below 1024 n ∷ words.both (equal kind 6) (below 65536 size) ∷ []) }
 {
-    let text = either(both(kind == 6, 65536 < size), false);
-    let lists = either(64 < h, either(512 < d, either(1024 < n, text)));
-    either(
-        both(kind == 1, 4096 <= symbols),
-        either(both(is_statement(kind), 4096 <= statements), lists),
-    )
+    (kind == 1 && 4096 <= symbols)
+        || (is_statement(kind) && 4096 <= statements)
+        || 64 < h
+        || 512 < d
+        || 1024 < n
+        || (kind == 6 && 65536 < size)
 }
 
 // 2 TooMany.

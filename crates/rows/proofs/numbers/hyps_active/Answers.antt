@@ -12,4 +12,4 @@ all_active-requires c = omega arith
 
 pub returns : goal.returns
 unfolding hyps_at
-returns c = let a = c.args in rows-moved (all (active a.file.now a.statements.now (length a.statements.now))) (u32 a.file.now) 4 c.all_active.ensures c.hyp_count-h.ensures.0 c.lists_from-from.ensures.0
+returns c = let a = c.args in rows-moved (all (active a.file.now a.statements.now (length a.statements.now))) (u32 a.file.now) 4 c.all_active.ensures c.hyp_count.ensures.0 c.lists_from.ensures.0

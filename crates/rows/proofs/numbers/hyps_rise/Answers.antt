@@ -10,4 +10,4 @@ rises-requires c = omega arith
 
 pub returns : goal.returns
 unfolding hyps_at
-returns c = rows-moved (rising_from 0) (u32 c.args.file.now) 4 c.rises.ensures c.hyp_count-h.ensures.0 c.lists_from-from.ensures.0
+returns c = rows-moved (rising_from 0) (u32 c.args.file.now) 4 c.rises.ensures c.hyp_count.ensures.0 c.lists_from.ensures.0

@@ -11,4 +11,4 @@ all_variables-requires c = omega arith
 
 pub returns : goal.returns
 unfolding pairs_at
-returns c = let a = c.args in rows-moved (all (variables a.file.now a.symbols.now)) (pair_at a.file.now) 4 c.all_variables.ensures c.pair_count-d.ensures.0 c.pairs_from-from.ensures.0
+returns c = let a = c.args in rows-moved (all (variables a.file.now a.symbols.now)) (pair_at a.file.now) 4 c.all_variables.ensures c.pair_count.ensures.0 c.pairs_from.ensures.0

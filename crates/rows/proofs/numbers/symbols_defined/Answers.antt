@@ -11,4 +11,4 @@ all_defined-requires c = omega arith
 
 pub returns : goal.returns
 unfolding symbols_at
-returns c = let a = c.args in rows-moved (all (defined a.symbols.now)) (u16 a.file.now) 2 c.all_defined.ensures c.symbol_count-n.ensures.0 c.symbols_from-from.ensures.0
+returns c = let a = c.args in rows-moved (all (defined a.symbols.now)) (u16 a.file.now) 2 c.all_defined.ensures c.symbol_count.ensures.0 c.symbols_from.ensures.0
