@@ -1,7 +1,6 @@
 // Row 6: whether the frame of a $a or $p is one.
-ghost use Rattle.std.specs.Prelude.{◌≡◌, ◌∷◌, [], ◌<◌, ◌^◌};
-ghost use Rattle.frames.specs.Logic as words;
-ghost use Rattle.frames.specs.Logic.{one_of, any, rows};
+ghost use Rattle.std.specs.Prelude.{◌≡◌, ◌<◌, ◌^◌};
+ghost use Rattle.frames.specs.Logic.{any, rows};
 ghost use Rattle.frames.specs.Layout.{u32, pair_at, symbols_at};
 ghost use Rattle.frames.specs.Table.{float_below, has_float, symbol_given, all_given, lacks_float, second_float, equal_members, bad_assertion, bad_frame};
 
@@ -121,8 +120,7 @@ fn is_second_float(file: &[u8], statements: &[u32], from: usize, h: usize, s: us
     ensures { result ≡ second_float file.now statements.now (rows (u32 file.now) 4 h from) s }
 {
     let at = entry(statements, s);
-    kind_at(file, at) == 2
-        && has_float(file, statements, from, h, s, float_variable(file, at))
+    kind_at(file, at) == 2 && has_float(file, statements, from, h, s, float_variable(file, at))
 }
 
 // One of the h listed hypotheses from `from` on is such a $f.
@@ -153,27 +151,17 @@ fn has_equal_pair(file: &[u8], from: usize, d: usize) -> bool
     false
 }
 
-// Row 6 on the answers to its questions.
-#[tactic(auto, unfolding(frames::specs::Logic::one_of, frames::specs::Logic::either, frames::specs::Logic::no))]
-fn frame_row(given: bool, lacks: bool, second: bool, equal: bool) -> bool
-    ensures { result ≡ one_of (words.no given ∷ lacks ∷ second ∷ equal ∷ []) }
-{
-    !given || lacks || second || equal
-}
-
 // Row 6 for a $a or $p.
+#[tactic(auto, unfolding(frames::specs::Table::bad_assertion, frames::specs::Layout::hyps_at, frames::specs::Layout::pairs_at, frames::specs::Logic::one_of, frames::specs::Logic::either, frames::specs::Logic::no))]
 fn bad_assertion(file: &[u8], symbols: &[u32], statements: &[u32], at: u32) -> bool
     ensures { result ≡ bad_assertion file.now symbols.now statements.now at }
 {
     let from = lists_from(file, at);
     let h = hyp_count(file, at);
-    let pairs = pairs_from(file, at);
-    let d = pair_count(file, at);
-    let given = are_given(file, symbols, statements, from, h, statements.len(), at);
-    let lacks = one_lacks_float(file, symbols, statements, from, h);
-    let second = has_second_float(file, statements, from, h);
-    let equal = has_equal_pair(file, pairs, d);
-    frame_row(given, lacks, second, equal)
+    !are_given(file, symbols, statements, from, h, statements.len(), at)
+        || one_lacks_float(file, symbols, statements, from, h)
+        || has_second_float(file, statements, from, h)
+        || has_equal_pair(file, pairs_from(file, at), pair_count(file, at))
 }
 
 // 6 BadFrame.

@@ -1,7 +1,6 @@
 // Row 5: what the numbers of a statement refer to.
-ghost use Rattle.std.specs.Prelude.{◌≡◌, ◌∷◌, [], ◌<◌, ◌^◌, length};
-ghost use Rattle.frames.specs.Logic as words;
-ghost use Rattle.frames.specs.Logic.{one_of, all, rising_from, rows};
+ghost use Rattle.std.specs.Prelude.{◌≡◌, ◌<◌, ◌^◌, length};
+ghost use Rattle.frames.specs.Logic.{all, rising_from, rows};
 ghost use Rattle.frames.specs.Layout.{u16, u32, pair_at, hyps_at, pairs_at, symbols_at};
 ghost use Rattle.frames.specs.Table.{active, defined, variables, bad_numbers, bad_reference};
 
@@ -80,30 +79,21 @@ fn all_active(file: &[u8], statements: &[u32], from: usize, h: usize) -> bool
     true
 }
 
-// Row 5 on the answers to its questions.
-#[tactic(auto, unfolding(frames::specs::Logic::one_of, frames::specs::Logic::either, frames::specs::Logic::both, frames::specs::Logic::no))]
-fn reference_row(
-    defined: bool,
-    constant: bool,
-    float: bool,
-    variable: bool,
-    pairs: bool,
-    rising: bool,
-    active: bool,
-) -> bool
-    ensures { result ≡ one_of (words.no defined ∷ words.no constant ∷ words.both float (words.no variable) ∷ words.no pairs ∷ words.no rising ∷ words.no active ∷ []) }
-{
-    !defined || !constant || (float && !variable) || !pairs || !rising || !active
-}
-
 // Each symbol of the statement at `at` is defined earlier.
+#[tactic(auto, unfolding(frames::specs::Layout::symbols_at))]
 fn symbols_defined(file: &[u8], symbols: &[u32], at: u32) -> bool
     ensures { result ≡ all (defined symbols.now) (symbols_at file.now at) }
 {
-    all_defined(file, symbols, symbols_from(file, at), symbol_count(file, at))
+    all_defined(
+        file,
+        symbols,
+        symbols_from(file, at),
+        symbol_count(file, at),
+    )
 }
 
 // Each pair of the statement at `at` is one of variables.
+#[tactic(auto, unfolding(frames::specs::Layout::pairs_at))]
 fn pairs_variables(file: &[u8], symbols: &[u32], at: u32) -> bool
     ensures { result ≡ all (variables file.now symbols.now) (pairs_at file.now at) }
 {
@@ -111,6 +101,7 @@ fn pairs_variables(file: &[u8], symbols: &[u32], at: u32) -> bool
 }
 
 // The hypotheses of the statement at `at` rise strictly.
+#[tactic(auto, unfolding(frames::specs::Layout::hyps_at))]
 fn hyps_rise(file: &[u8], at: u32) -> bool
     ensures { result ≡ rising_from 0 (hyps_at file.now at) }
 {
@@ -118,6 +109,7 @@ fn hyps_rise(file: &[u8], at: u32) -> bool
 }
 
 // The hypotheses of the statement at `at`, whose number is the next one, are active $f and $e.
+#[tactic(auto, unfolding(frames::specs::Layout::hyps_at))]
 fn hyps_active(file: &[u8], statements: &[u32], at: u32) -> bool
     ensures { result ≡ all (active file.now statements.now (length statements.now)) (hyps_at file.now at) }
 {
@@ -125,17 +117,16 @@ fn hyps_active(file: &[u8], statements: &[u32], at: u32) -> bool
 }
 
 // Row 5 for a statement.
+#[tactic(auto, unfolding(frames::specs::Table::bad_numbers, frames::specs::Logic::one_of, frames::specs::Logic::either, frames::specs::Logic::both, frames::specs::Logic::no, frames::specs::Logic::equal))]
 fn bad_numbers(file: &[u8], symbols: &[u32], statements: &[u32], at: u32) -> bool
     ensures { result ≡ bad_numbers file.now symbols.now statements.now at }
 {
-    let defined = symbols_defined(file, symbols, at);
-    let constant = is_constant(file, symbols, typecode(file, at));
-    let float = kind_at(file, at) == 2;
-    let variable = is_variable(file, symbols, float_variable(file, at));
-    let pairs = pairs_variables(file, symbols, at);
-    let rising = hyps_rise(file, at);
-    let active = hyps_active(file, statements, at);
-    reference_row(defined, constant, float, variable, pairs, rising, active)
+    !symbols_defined(file, symbols, at)
+        || !is_constant(file, symbols, typecode(file, at))
+        || (kind_at(file, at) == 2 && !is_variable(file, symbols, float_variable(file, at)))
+        || !pairs_variables(file, symbols, at)
+        || !hyps_rise(file, at)
+        || !hyps_active(file, statements, at)
 }
 
 // 5 BadReference.

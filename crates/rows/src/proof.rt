@@ -1,6 +1,5 @@
 // Row 7: a proof where one is owed, and nowhere else.
 ghost use Rattle.std.specs.Prelude.{◌≡◌};
-ghost use Rattle.frames.specs.Layout.{u32};
 ghost use Rattle.frames.specs.Table.{no_proof};
 
 use frames::record::kind_at;

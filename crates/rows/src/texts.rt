@@ -1,6 +1,5 @@
 // Rows 3 and 4: names and labels.
 ghost use Rattle.std.specs.Prelude.{◌≡◌};
-ghost use Rattle.frames.specs.Layout.{u32};
 ghost use Rattle.frames.specs.Table.{bad_symbol, bad_label};
 
 use frames::record::{is_statement, kind_at, rest_at};

@@ -1,6 +1,8 @@
 -- `rows::framing::are_given` meets its contract: the loop stops at the first member that fails. The invariant: the test of what is left of the list is the test of the whole (`AllSoFar`).
-use Rattle.frames.proofs.Chains.{told}
-use Rattle.rows.proofs.Rows.{rows-moved}
+use Rattle.frames.proofs.Chains.{moved, told}
+use Prim.Native.Nat.{ℕ}
+use mathlib.Core.Path.{◌≡◌}
+use mathlib.Core.List.{List}
 use Rattle.frames.proofs.Loops.{all_done, all_more, all_none, all-stop, here-rows, length-rows}
 use Rattle.frames.specs.Layout.{symbols_at, u16, u32}
 use Rattle.frames.specs.Logic.{all, rows}
@@ -8,6 +10,11 @@ use Rattle.frames.specs.Table.{all_given, symbol_given}
 use borrow.Author.Rules.{rules}
 use native.Mathlib.Omega.{arith}
 use Rattle.rows.proofs.framing.are_given.Goals as goal
+
+-- a list read by its count and its start
+rows-moved : {A B : Type 0} (q : List A → B) (read : ℕ → A) (step : ℕ) {n n' from from' : ℕ} {r : B}
+    → r ≡ q (rows read step n from) → n ≡ n' → from ≡ from' → r ≡ q (rows read step n' from')
+rows-moved q read step {n} {n'} {from} {from'} e g h = moved (λ k. q (rows read step n' k)) (moved (λ k. q (rows read step k from)) e g) h
 
 pub loop-i-init : goal.loop-i-init
 loop-i-init c = let a = c.args in all_none (symbol_given a.file.now a.symbols.now a.statements.now (rows (u32 a.file.now) 4 a.h a.from) a.limit) (rows (u16 a.file.now) 2 c.symbol_count-n.result c.symbols_from-first.result)
