@@ -37,6 +37,7 @@ pub fn any_bad(text: &[u8]) -> bool
 }
 
 // The class of a letter.
+#[tactic(auto, unfolding(machine::specs::Reading::letter, frames::specs::Logic::pick, frames::specs::Logic::both, frames::specs::Logic::at_most, frames::specs::Logic::equal))]
 pub fn letter(b: u8) -> Letter
     ensures { result ≡ reading.letter b }
 {
