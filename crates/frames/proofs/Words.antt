@@ -8,12 +8,12 @@ use lib.Pointwise.{pointwise}
 use Rattle.std.specs.List.{list_all, list_any}
 use Rattle.frames.specs.Logic.{equal, both, either, all, any, same}
 
-pub both-and : (a b : Bool) → (a && b) ≡ both a b
+both-and : (a b : Bool) → (a && b) ≡ both a b
 unfolding both
 both-and true b = refl
 both-and false b = refl
 
-pub either-or : (a b : Bool) → (a || b) ≡ either a b
+either-or : (a b : Bool) → (a || b) ≡ either a b
 unfolding either
 either-or true b = refl
 either-or false b = refl

@@ -135,5 +135,5 @@ pub fn is_float_of(file: &[u8], statements: &[u32], v: SymbolNo, h: StatementNo)
     ensures { result ≡ float_of file.now statements.now v.0 h.0 }
 {
     let at = entry(statements, h.0);
-    kind_at(file, at) == 2 && float_variable(file, at).0 == v.0
+    kind_at(file, at) == 2 && float_variable(file, at) == v
 }
