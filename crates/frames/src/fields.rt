@@ -1,5 +1,7 @@
 // The fields of a symbol or a statement, in the words of the decoded database, read where its record lies in the file. A record
 // is named by its offset, which `symbol_offset` or `statement_offset` finds in the index.
+#![tactic(auto, unfolding(crate::specs::Database::symbol_at, crate::specs::Database::statement_at, crate::specs::Logic::pick, crate::specs::Logic::equal))]
+
 ghost use Rattle.std.specs.Prelude.{◌≡◌, ◌<◌, length, get_or};
 ghost use Rattle.frames.specs.Layout.{next_at};
 ghost use Rattle.frames.specs.Database.{symbol_at, statement_at};
@@ -50,9 +52,10 @@ pub fn scope_end(file: &[u8], at: u32) -> usize
     ensures { result ≡ (statement_at file.now at).end }
 {
     if record::is_hypothesis(record::kind_at(file, at)) {
-        return record::scope_end_at(file, at);
+        record::scope_end_at(file, at)
+    } else {
+        0
     }
-    0
 }
 
 pub fn label(file: &[u8], at: u32) -> &[u8]
@@ -107,9 +110,10 @@ pub fn typecode(file: &[u8], at: u32) -> SymbolNo
     ensures { result.0 ≡ get_or (statement_at file.now at).symbols 0 0 }
 {
     if record::kind_at(file, at) == 2 {
-        return SymbolNo(u16_at(file, at as usize + 10));
+        SymbolNo(u16_at(file, at as usize + 10))
+    } else {
+        refer::symbol(file, at, 0)
     }
-    refer::symbol(file, at, 0)
 }
 
 // The variable of a $f.
@@ -117,9 +121,10 @@ pub fn variable(file: &[u8], at: u32) -> SymbolNo
     ensures { result.0 ≡ get_or (statement_at file.now at).symbols 1 0 }
 {
     if record::kind_at(file, at) == 2 {
-        return SymbolNo(u16_at(file, at as usize + 12));
+        SymbolNo(u16_at(file, at as usize + 12))
+    } else {
+        refer::symbol(file, at, 1)
     }
-    refer::symbol(file, at, 1)
 }
 
 // The proof text of a $p, as a part of the file: the rest of the record that follows it. Any other statement has none.

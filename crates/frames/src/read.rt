@@ -29,24 +29,28 @@ fn near_u32(file: &[u8], i: usize) -> usize
     u32::from_le_bytes([file[i], file[i + 1], file[i + 2], file[i + 3]]) as usize
 }
 
+#[tactic(auto, unfolding(crate::specs::Layout::u16, crate::specs::Layout::byte))]
 pub fn u16_at(file: &[u8], i: usize) -> usize
     requires { i < 2 ^ 61 }
     ensures { (result ≡ u16 file.now i) × (result < 65536) }
 {
     if i + 1 < file.len() {
-        return near_u16(file, i);
+        near_u16(file, i)
+    } else {
+        byte_at(file, i)
     }
-    byte_at(file, i)
 }
 
+#[tactic(auto, unfolding(crate::specs::Layout::u32))]
 pub fn u32_at(file: &[u8], i: usize) -> usize
     requires { i < 2 ^ 60 }
     ensures { (result ≡ u32 file.now i) × (result < 4294967296) }
 {
     if i + 3 < file.len() {
-        return near_u32(file, i);
+        near_u32(file, i)
+    } else {
+        u16_at(file, i) + 65536 * u16_at(file, i + 2)
     }
-    u16_at(file, i) + 65536 * u16_at(file, i + 2)
 }
 
 // The bytes from `from` on, at most `size` of them, as a part of the file.

@@ -44,12 +44,14 @@ pub fn is_statement(kind: usize) -> bool
     is_hypothesis(kind) || is_assertion(kind)
 }
 
+#[tactic(auto, unfolding(crate::specs::Layout::length_at))]
 pub fn length_at(file: &[u8], at: u32) -> usize
     ensures { (result ≡ length_at file.now at) × (result < 4294967296) }
 {
     u32_at(file, at as usize)
 }
 
+#[tactic(auto, unfolding(crate::specs::Layout::kind_at))]
 pub fn kind_at(file: &[u8], at: u32) -> usize
     ensures { (result ≡ kind_at file.now at) × (result < 65536) }
 {
@@ -57,58 +59,69 @@ pub fn kind_at(file: &[u8], at: u32) -> usize
 }
 
 // Where the next record begins.
+#[tactic(auto, unfolding(crate::specs::Layout::next_at))]
 pub fn next_at(file: &[u8], at: u32) -> usize
     ensures { (result ≡ next_at file.now at) × (result < 2 ^ 34) }
 {
     at as usize + 4 + length_at(file, at)
 }
 
+#[tactic(auto, unfolding(crate::specs::Layout::class_at))]
 pub fn class_at(file: &[u8], at: u32) -> usize
     ensures { (result ≡ class_at file.now at) × (result < 256) }
 {
     byte_at(file, at as usize + 6)
 }
 
+#[tactic(auto, unfolding(crate::specs::Layout::scope_end_at))]
 pub fn scope_end_at(file: &[u8], at: u32) -> usize
     ensures { (result ≡ scope_end_at file.now at) × (result < 4294967296) }
 {
     u32_at(file, at as usize + 6)
 }
 
+#[tactic(auto, unfolding(crate::specs::Layout::hyp_count, crate::specs::Logic::pick))]
 pub fn hyp_count(file: &[u8], at: u32) -> usize
     ensures { (result ≡ hyp_count file.now at) × (result < 65536) }
 {
     if is_assertion(kind_at(file, at)) {
-        return u16_at(file, at as usize + 6);
+        u16_at(file, at as usize + 6)
+    } else {
+        0
     }
-    0
 }
 
+#[tactic(auto, unfolding(crate::specs::Layout::pair_count, crate::specs::Logic::pick))]
 pub fn pair_count(file: &[u8], at: u32) -> usize
     ensures { (result ≡ pair_count file.now at) × (result < 65536) }
 {
     if is_assertion(kind_at(file, at)) {
-        return u16_at(file, at as usize + 8);
+        u16_at(file, at as usize + 8)
+    } else {
+        0
     }
-    0
 }
 
+#[tactic(auto, unfolding(crate::specs::Layout::listed_count, crate::specs::Logic::pick))]
 pub fn listed_count(file: &[u8], at: u32) -> usize
     ensures { (result ≡ listed_count file.now at) × (result < 65536) }
 {
     if lists_symbols(kind_at(file, at)) {
-        return u16_at(file, at as usize + 10);
+        u16_at(file, at as usize + 10)
+    } else {
+        0
     }
-    0
 }
 
 // The lists follow the fixed part: hypotheses, pairs, symbols.
+#[tactic(auto, unfolding(crate::specs::Layout::lists_from))]
 pub fn lists_from(file: &[u8], at: u32) -> usize
     ensures { (result ≡ lists_from file.now at) × (result < 4294967310) }
 {
     at as usize + 6 + fixed_size(kind_at(file, at))
 }
 
+#[tactic(auto, unfolding(crate::specs::Layout::pairs_from))]
 pub fn pairs_from(file: &[u8], at: u32) -> usize
     ensures { (result ≡ pairs_from file.now at) × (result < 4295300000) }
 {
@@ -116,6 +129,7 @@ pub fn pairs_from(file: &[u8], at: u32) -> usize
 }
 
 // Where the symbols of any record begin.
+#[tactic(auto, unfolding(crate::specs::Layout::listed_from))]
 fn any_listed_from(file: &[u8], at: u32) -> usize
     ensures { (result ≡ listed_from file.now at) × (result < 4295600000) }
 {
@@ -140,6 +154,7 @@ pub fn listed_from(file: &[u8], at: u32) -> usize
 }
 
 // A name, a label or a proof's text takes the rest of the body.
+#[tactic(auto, unfolding(crate::specs::Layout::rest_from))]
 pub fn rest_from(file: &[u8], at: u32) -> usize
     ensures { (result ≡ rest_from file.now at) × (result < 2 ^ 33) }
 {
@@ -174,26 +189,31 @@ pub fn rest_at(file: &[u8], at: u32) -> &[u8]
     ensures { result.now ≡ rest_at file.now at }
 {
     if at as usize + 5 < file.len() && kind_at(file, at) == 1 {
-        return symbol_name(file, at);
+        symbol_name(file, at)
+    } else {
+        any_rest_at(file, at)
     }
-    any_rest_at(file, at)
 }
 
 // The symbols of a statement, the typecode first; those of a $f are its typecode and its variable.
+#[tactic(auto, unfolding(crate::specs::Layout::symbol_count, crate::specs::Logic::pick, crate::specs::Logic::equal))]
 pub fn symbol_count(file: &[u8], at: u32) -> usize
     ensures { (result ≡ symbol_count file.now at) × (result < 65536) }
 {
     if kind_at(file, at) == 2 {
-        return 2;
+        2
+    } else {
+        listed_count(file, at)
     }
-    listed_count(file, at)
 }
 
+#[tactic(auto, unfolding(crate::specs::Layout::symbols_from, crate::specs::Logic::pick, crate::specs::Logic::equal))]
 pub fn symbols_from(file: &[u8], at: u32) -> usize
     ensures { (result ≡ symbols_from file.now at) × (result < 2 ^ 33) }
 {
     if kind_at(file, at) == 2 {
-        return at as usize + 10;
+        at as usize + 10
+    } else {
+        listed_from(file, at)
     }
-    listed_from(file, at)
 }

@@ -38,11 +38,13 @@ pub fn symbol(file: &[u8], at: u32, i: usize) -> SymbolNo
     ensures { result.0 ≡ get_or (symbols_at file.now at) i 0 }
 {
     if i < symbol_count(file, at) {
-        return SymbolNo(u16_at(file, symbols_from(file, at) + 2 * i));
+        SymbolNo(u16_at(file, symbols_from(file, at) + 2 * i))
+    } else {
+        SymbolNo(0)
     }
-    SymbolNo(0)
 }
 
+#[tactic(auto, unfolding(crate::specs::Layout::typecode_at))]
 pub fn typecode(file: &[u8], at: u32) -> SymbolNo
     ensures { result.0 ≡ typecode_at file.now at }
 {
@@ -50,6 +52,7 @@ pub fn typecode(file: &[u8], at: u32) -> SymbolNo
 }
 
 // The variable of a $f.
+#[tactic(auto, unfolding(crate::specs::Layout::variable_at))]
 pub fn float_variable(file: &[u8], at: u32) -> SymbolNo
     ensures { result.0 ≡ variable_at file.now at }
 {
@@ -61,9 +64,10 @@ pub fn hypothesis(file: &[u8], at: u32, i: usize) -> StatementNo
     ensures { result.0 ≡ get_or (hyps_at file.now at) i 0 }
 {
     if i < hyp_count(file, at) {
-        return StatementNo(u32_at(file, lists_from(file, at) + 4 * i));
+        StatementNo(u32_at(file, lists_from(file, at) + 4 * i))
+    } else {
+        StatementNo(0)
     }
-    StatementNo(0)
 }
 
 // A pair of symbol numbers.
@@ -100,12 +104,14 @@ pub fn class_of(file: &[u8], symbols: &[u32], s: SymbolNo) -> usize
     }
 }
 
+#[tactic(auto, unfolding(crate::specs::Table::constant, crate::specs::Logic::equal))]
 pub fn is_constant(file: &[u8], symbols: &[u32], s: SymbolNo) -> bool
     ensures { result ≡ constant file.now symbols.now s.0 }
 {
     class_of(file, symbols, s) == 0
 }
 
+#[tactic(auto, unfolding(crate::specs::Table::variable, crate::specs::Logic::equal))]
 pub fn is_variable(file: &[u8], symbols: &[u32], s: SymbolNo) -> bool
     ensures { result ≡ variable file.now symbols.now s.0 }
 {
