@@ -1,10 +1,11 @@
 // Total readers of the file's bytes: a byte past the end reads as 0. Numbers ask only that their offset is far from the end of `usize`;
 // where all their bytes are in the file they are read by one test of the length.
+#![tactic(auto, unfolding(crate::specs::Layout::byte, crate::specs::Layout::u16, crate::specs::Layout::u32))]
+
 ghost use Rattle.std.specs.Prelude.{◌≡◌, ◌<◌, ◌^◌, ◌+◌, length, take, drop};
 ghost use Rattle.frames.specs.Layout.{byte, u16, u32};
 
 // A byte of the file.
-#[tactic(auto, unfolding(crate::specs::Layout::byte))]
 pub fn byte_at(file: &[u8], i: usize) -> usize
     ensures { (result ≡ byte file.now i) × (result < 256) }
 {
@@ -12,7 +13,6 @@ pub fn byte_at(file: &[u8], i: usize) -> usize
 }
 
 // A number of two bytes that are in the file.
-#[tactic(auto, unfolding(crate::specs::Layout::u16, crate::specs::Layout::byte))]
 fn near_u16(file: &[u8], i: usize) -> usize
     requires { i + 1 < length file.now }
     ensures { (result ≡ u16 file.now i) × (result < 65536) }
@@ -21,7 +21,6 @@ fn near_u16(file: &[u8], i: usize) -> usize
 }
 
 // A number of four bytes that are in the file.
-#[tactic(auto, unfolding(crate::specs::Layout::u32, crate::specs::Layout::u16, crate::specs::Layout::byte))]
 fn near_u32(file: &[u8], i: usize) -> usize
     requires { i + 3 < length file.now }
     ensures { (result ≡ u32 file.now i) × (result < 4294967296) }
@@ -29,7 +28,6 @@ fn near_u32(file: &[u8], i: usize) -> usize
     u32::from_le_bytes([file[i], file[i + 1], file[i + 2], file[i + 3]]) as usize
 }
 
-#[tactic(auto, unfolding(crate::specs::Layout::u16, crate::specs::Layout::byte))]
 pub fn u16_at(file: &[u8], i: usize) -> usize
     requires { i < 2 ^ 61 }
     ensures { (result ≡ u16 file.now i) × (result < 65536) }
@@ -41,7 +39,6 @@ pub fn u16_at(file: &[u8], i: usize) -> usize
     }
 }
 
-#[tactic(auto, unfolding(crate::specs::Layout::u32))]
 pub fn u32_at(file: &[u8], i: usize) -> usize
     requires { i < 2 ^ 60 }
     ensures { (result ≡ u32 file.now i) × (result < 4294967296) }

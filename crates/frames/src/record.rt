@@ -1,4 +1,6 @@
 // Where the parts of a record lie, read off the file's bytes. A record is named by its offset; every reader is total.
+#![tactic(auto, unfolding(crate::specs::Layout::asserts, crate::specs::Layout::supposes, crate::specs::Layout::lists_symbols, crate::specs::Layout::is_statement, crate::specs::Layout::length_at, crate::specs::Layout::kind_at, crate::specs::Layout::next_at, crate::specs::Layout::class_at, crate::specs::Layout::scope_end_at, crate::specs::Layout::hyp_count, crate::specs::Layout::pair_count, crate::specs::Layout::listed_count, crate::specs::Layout::lists_from, crate::specs::Layout::pairs_from, crate::specs::Layout::listed_from, crate::specs::Layout::rest_from, crate::specs::Layout::rest_size, crate::specs::Layout::rest_at, crate::specs::Layout::symbol_count, crate::specs::Layout::symbols_from, crate::specs::Logic::either, crate::specs::Logic::equal, crate::specs::Logic::pick))]
+
 ghost use Rattle.std.specs.Prelude.{◌≡◌, ◌<◌, ◌≤◌, ◌^◌, ◌+◌, get_or};
 ghost use Rattle.frames.specs.Layout.{kind_at, length_at, next_at, fixed_size, asserts, supposes, lists_symbols, is_statement, class_at, scope_end_at, hyp_count, pair_count, listed_count, lists_from, pairs_from, listed_from, rest_from, rest_size, rest_at, symbol_count, symbols_from};
 
@@ -14,7 +16,6 @@ pub fn fixed_size(kind: usize) -> usize
 }
 
 // $a and $p.
-#[tactic(auto, unfolding(crate::specs::Layout::asserts, crate::specs::Logic::either, crate::specs::Logic::equal))]
 pub fn is_assertion(kind: usize) -> bool
     ensures { result ≡ asserts kind }
 {
@@ -22,7 +23,6 @@ pub fn is_assertion(kind: usize) -> bool
 }
 
 // $f and $e.
-#[tactic(auto, unfolding(crate::specs::Layout::supposes, crate::specs::Logic::either, crate::specs::Logic::equal))]
 pub fn is_hypothesis(kind: usize) -> bool
     ensures { result ≡ supposes kind }
 {
@@ -30,28 +30,24 @@ pub fn is_hypothesis(kind: usize) -> bool
 }
 
 // $e, $a and $p.
-#[tactic(auto, unfolding(crate::specs::Layout::lists_symbols, crate::specs::Logic::either, crate::specs::Logic::equal))]
 pub fn lists_symbols(kind: usize) -> bool
     ensures { result ≡ lists_symbols kind }
 {
     kind == 3 || is_assertion(kind)
 }
 
-#[tactic(auto, unfolding(crate::specs::Layout::is_statement, crate::specs::Logic::either, crate::specs::Logic::equal))]
 pub fn is_statement(kind: usize) -> bool
     ensures { result ≡ is_statement kind }
 {
     is_hypothesis(kind) || is_assertion(kind)
 }
 
-#[tactic(auto, unfolding(crate::specs::Layout::length_at))]
 pub fn length_at(file: &[u8], at: u32) -> usize
     ensures { (result ≡ length_at file.now at) × (result < 4294967296) }
 {
     u32_at(file, at as usize)
 }
 
-#[tactic(auto, unfolding(crate::specs::Layout::kind_at))]
 pub fn kind_at(file: &[u8], at: u32) -> usize
     ensures { (result ≡ kind_at file.now at) × (result < 65536) }
 {
@@ -59,28 +55,24 @@ pub fn kind_at(file: &[u8], at: u32) -> usize
 }
 
 // Where the next record begins.
-#[tactic(auto, unfolding(crate::specs::Layout::next_at))]
 pub fn next_at(file: &[u8], at: u32) -> usize
     ensures { (result ≡ next_at file.now at) × (result < 2 ^ 34) }
 {
     at as usize + 4 + length_at(file, at)
 }
 
-#[tactic(auto, unfolding(crate::specs::Layout::class_at))]
 pub fn class_at(file: &[u8], at: u32) -> usize
     ensures { (result ≡ class_at file.now at) × (result < 256) }
 {
     byte_at(file, at as usize + 6)
 }
 
-#[tactic(auto, unfolding(crate::specs::Layout::scope_end_at))]
 pub fn scope_end_at(file: &[u8], at: u32) -> usize
     ensures { (result ≡ scope_end_at file.now at) × (result < 4294967296) }
 {
     u32_at(file, at as usize + 6)
 }
 
-#[tactic(auto, unfolding(crate::specs::Layout::hyp_count, crate::specs::Logic::pick))]
 pub fn hyp_count(file: &[u8], at: u32) -> usize
     ensures { (result ≡ hyp_count file.now at) × (result < 65536) }
 {
@@ -91,7 +83,6 @@ pub fn hyp_count(file: &[u8], at: u32) -> usize
     }
 }
 
-#[tactic(auto, unfolding(crate::specs::Layout::pair_count, crate::specs::Logic::pick))]
 pub fn pair_count(file: &[u8], at: u32) -> usize
     ensures { (result ≡ pair_count file.now at) × (result < 65536) }
 {
@@ -102,7 +93,6 @@ pub fn pair_count(file: &[u8], at: u32) -> usize
     }
 }
 
-#[tactic(auto, unfolding(crate::specs::Layout::listed_count, crate::specs::Logic::pick))]
 pub fn listed_count(file: &[u8], at: u32) -> usize
     ensures { (result ≡ listed_count file.now at) × (result < 65536) }
 {
@@ -114,14 +104,12 @@ pub fn listed_count(file: &[u8], at: u32) -> usize
 }
 
 // The lists follow the fixed part: hypotheses, pairs, symbols.
-#[tactic(auto, unfolding(crate::specs::Layout::lists_from))]
 pub fn lists_from(file: &[u8], at: u32) -> usize
     ensures { (result ≡ lists_from file.now at) × (result < 4294967310) }
 {
     at as usize + 6 + fixed_size(kind_at(file, at))
 }
 
-#[tactic(auto, unfolding(crate::specs::Layout::pairs_from))]
 pub fn pairs_from(file: &[u8], at: u32) -> usize
     ensures { (result ≡ pairs_from file.now at) × (result < 4295300000) }
 {
@@ -129,7 +117,6 @@ pub fn pairs_from(file: &[u8], at: u32) -> usize
 }
 
 // Where the symbols of any record begin.
-#[tactic(auto, unfolding(crate::specs::Layout::listed_from))]
 fn any_listed_from(file: &[u8], at: u32) -> usize
     ensures { (result ≡ listed_from file.now at) × (result < 4295600000) }
 {
@@ -154,14 +141,12 @@ pub fn listed_from(file: &[u8], at: u32) -> usize
 }
 
 // A name, a label or a proof's text takes the rest of the body.
-#[tactic(auto, unfolding(crate::specs::Layout::rest_from))]
 pub fn rest_from(file: &[u8], at: u32) -> usize
     ensures { (result ≡ rest_from file.now at) × (result < 2 ^ 33) }
 {
     any_listed_from(file, at) + 2 * listed_count(file, at)
 }
 
-#[tactic(auto, unfolding(crate::specs::Layout::rest_size))]
 pub fn rest_size(file: &[u8], at: u32) -> usize
     ensures { (result ≡ rest_size file.now at) × (result < 2 ^ 34) }
 {
@@ -177,7 +162,6 @@ fn symbol_name(file: &[u8], at: u32) -> &[u8]
 }
 
 // The name, label or text of any record.
-#[tactic(auto, unfolding(crate::specs::Layout::rest_at))]
 pub fn any_rest_at(file: &[u8], at: u32) -> &[u8]
     ensures { result.now ≡ rest_at file.now at }
 {
@@ -196,7 +180,6 @@ pub fn rest_at(file: &[u8], at: u32) -> &[u8]
 }
 
 // The symbols of a statement, the typecode first; those of a $f are its typecode and its variable.
-#[tactic(auto, unfolding(crate::specs::Layout::symbol_count, crate::specs::Logic::pick, crate::specs::Logic::equal))]
 pub fn symbol_count(file: &[u8], at: u32) -> usize
     ensures { (result ≡ symbol_count file.now at) × (result < 65536) }
 {
@@ -207,7 +190,6 @@ pub fn symbol_count(file: &[u8], at: u32) -> usize
     }
 }
 
-#[tactic(auto, unfolding(crate::specs::Layout::symbols_from, crate::specs::Logic::pick, crate::specs::Logic::equal))]
 pub fn symbols_from(file: &[u8], at: u32) -> usize
     ensures { (result ≡ symbols_from file.now at) × (result < 2 ^ 33) }
 {

@@ -1,4 +1,6 @@
 // What the numbers in a record refer to: a symbol's class, a statement's kind, whether a hypothesis is active.
+#![tactic(auto, unfolding(crate::specs::Layout::typecode_at, crate::specs::Layout::variable_at, crate::specs::Table::class_of, crate::specs::Table::constant, crate::specs::Table::variable, crate::specs::Table::within, crate::specs::Table::active, crate::specs::Table::float_of, crate::specs::Logic::pick, crate::specs::Logic::below, crate::specs::Logic::equal, crate::specs::Logic::either, crate::specs::Logic::both))]
+
 ghost use Rattle.std.specs.Prelude.{◌≡◌, ◌<◌, get_or, set};
 ghost use Rattle.frames.specs.Layout.{symbols_at, hyps_at, pairs_at, typecode_at, variable_at};
 ghost use Rattle.frames.specs.Table.{class_of, constant, variable, within, active, float_of};
@@ -44,7 +46,6 @@ pub fn symbol(file: &[u8], at: u32, i: usize) -> SymbolNo
     }
 }
 
-#[tactic(auto, unfolding(crate::specs::Layout::typecode_at))]
 pub fn typecode(file: &[u8], at: u32) -> SymbolNo
     ensures { result.0 ≡ typecode_at file.now at }
 {
@@ -52,7 +53,6 @@ pub fn typecode(file: &[u8], at: u32) -> SymbolNo
 }
 
 // The variable of a $f.
-#[tactic(auto, unfolding(crate::specs::Layout::variable_at))]
 pub fn float_variable(file: &[u8], at: u32) -> SymbolNo
     ensures { result.0 ≡ variable_at file.now at }
 {
@@ -94,7 +94,6 @@ pub fn pair_of(file: &[u8], at: u32, i: usize) -> Pair
 }
 
 // The class of a symbol: 0 constant, 1 variable, 2 where the number is not defined.
-#[tactic(auto, unfolding(crate::specs::Table::class_of, crate::specs::Logic::pick, crate::specs::Logic::below))]
 pub fn class_of(file: &[u8], symbols: &[u32], s: SymbolNo) -> usize
     ensures { result ≡ class_of file.now symbols.now s.0 }
 {
@@ -104,14 +103,12 @@ pub fn class_of(file: &[u8], symbols: &[u32], s: SymbolNo) -> usize
     }
 }
 
-#[tactic(auto, unfolding(crate::specs::Table::constant, crate::specs::Logic::equal))]
 pub fn is_constant(file: &[u8], symbols: &[u32], s: SymbolNo) -> bool
     ensures { result ≡ constant file.now symbols.now s.0 }
 {
     class_of(file, symbols, s) == 0
 }
 
-#[tactic(auto, unfolding(crate::specs::Table::variable, crate::specs::Logic::equal))]
 pub fn is_variable(file: &[u8], symbols: &[u32], s: SymbolNo) -> bool
     ensures { result ≡ variable file.now symbols.now s.0 }
 {
@@ -119,7 +116,6 @@ pub fn is_variable(file: &[u8], symbols: &[u32], s: SymbolNo) -> bool
 }
 
 // The scope of a $f or $e reaches statement p: its end is 4294967295 or above p.
-#[tactic(auto, unfolding(crate::specs::Table::within, crate::specs::Logic::either, crate::specs::Logic::equal, crate::specs::Logic::below))]
 fn reaches(end: usize, p: usize) -> bool
     ensures { result ≡ within end p }
 {
@@ -127,7 +123,6 @@ fn reaches(end: usize, p: usize) -> bool
 }
 
 // Statement s is a $f or $e that is active at statement p.
-#[tactic(auto, unfolding(crate::specs::Table::active, crate::specs::Logic::both, crate::specs::Logic::below))]
 pub fn is_active(file: &[u8], statements: &[u32], p: StatementNo, s: StatementNo) -> bool
     ensures { result ≡ active file.now statements.now p.0 s.0 }
 {
@@ -136,7 +131,6 @@ pub fn is_active(file: &[u8], statements: &[u32], p: StatementNo, s: StatementNo
 }
 
 // Statement h is a $f of variable v.
-#[tactic(auto, unfolding(crate::specs::Table::float_of, crate::specs::Logic::both, crate::specs::Logic::equal))]
 pub fn is_float_of(file: &[u8], statements: &[u32], v: SymbolNo, h: StatementNo) -> bool
     ensures { result ≡ float_of file.now statements.now v.0 h.0 }
 {

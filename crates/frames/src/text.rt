@@ -1,4 +1,6 @@
 // Names and labels: which bytes they have, when two are the same, and which record bears one.
+#![tactic(auto, unfolding(crate::specs::Table::name_byte, crate::specs::Table::label_byte, crate::specs::Logic::both, crate::specs::Logic::no, crate::specs::Logic::at_most, crate::specs::Logic::equal, crate::specs::Logic::one_of, crate::specs::Logic::either))]
+
 ghost use Rattle.std.specs.Prelude.{◌≡◌};
 ghost use Rattle.frames.specs.Logic.{all, same};
 ghost use Rattle.frames.specs.Table.{name_byte, label_byte, used};
@@ -7,7 +9,6 @@ ghost use Rattle.frames.specs.Search.{Finds};
 use crate::record::rest_at;
 
 // Name bytes are 21 to 7E hex, without `$`.
-#[tactic(auto, unfolding(crate::specs::Table::name_byte, crate::specs::Logic::both, crate::specs::Logic::no, crate::specs::Logic::at_most, crate::specs::Logic::equal))]
 pub fn name_byte(b: u8) -> bool
     ensures { result ≡ name_byte b }
 {
@@ -15,7 +16,6 @@ pub fn name_byte(b: u8) -> bool
 }
 
 // Label bytes are letters, digits, `-`, `_`, `.`.
-#[tactic(auto, unfolding(crate::specs::Table::label_byte, crate::specs::Logic::one_of, crate::specs::Logic::either, crate::specs::Logic::both, crate::specs::Logic::at_most, crate::specs::Logic::equal))]
 pub fn label_byte(b: u8) -> bool
     ensures { result ≡ label_byte b }
 {

@@ -1,4 +1,6 @@
 // Row 6: whether the frame of a $a or $p is one.
+#![tactic(auto, unfolding(frames::specs::Layout::hyps_at, frames::specs::Layout::pairs_at, frames::specs::Table::float_below, frames::specs::Table::symbol_given, frames::specs::Table::lacks_float, frames::specs::Table::second_float, frames::specs::Table::bad_assertion, frames::specs::Table::bad_frame, frames::specs::Logic::both, frames::specs::Logic::below, frames::specs::Logic::either, frames::specs::Logic::no, frames::specs::Logic::equal, frames::specs::Logic::one_of))]
+
 ghost use Rattle.std.specs.Prelude.{◌≡◌, ◌<◌, ◌^◌};
 ghost use Rattle.frames.specs.Logic.{any, rows};
 ghost use Rattle.frames.specs.Layout.{u32, pair_at, symbols_at};
@@ -13,7 +15,6 @@ use frames::record::{
 use frames::refer::{entry, float_variable, is_float_of, is_variable};
 
 // Statement s is a $f of variable v, and its number is below `limit`.
-#[tactic(auto, unfolding(frames::specs::Table::float_below, frames::specs::Logic::both, frames::specs::Logic::below))]
 fn is_float_below(file: &[u8], statements: &[u32], limit: usize, v: SymbolNo, s: usize) -> bool
     ensures { result ≡ float_below file.now statements.now limit v.0 s }
 {
@@ -42,7 +43,6 @@ fn has_float(
 }
 
 // The symbol, if it is a variable, has a listed $f below `limit`.
-#[tactic(auto, unfolding(frames::specs::Table::symbol_given, frames::specs::Logic::either, frames::specs::Logic::no))]
 fn is_symbol_given(
     file: &[u8],
     symbols: &[u32],
@@ -83,7 +83,6 @@ fn are_given(
 }
 
 // Statement s is a $e with a variable that has no listed $f, or has it after that $e.
-#[tactic(auto, unfolding(frames::specs::Table::lacks_float, frames::specs::Logic::both, frames::specs::Logic::no, frames::specs::Logic::equal))]
 fn lacks_float(
     file: &[u8],
     symbols: &[u32],
@@ -114,7 +113,6 @@ fn one_lacks_float(file: &[u8], symbols: &[u32], statements: &[u32], from: usize
 }
 
 // Statement s is a $f whose variable has a listed $f before it.
-#[tactic(auto, unfolding(frames::specs::Table::second_float, frames::specs::Logic::both, frames::specs::Logic::equal))]
 fn is_second_float(file: &[u8], statements: &[u32], from: usize, h: usize, s: usize) -> bool
     requires { (from < 2 ^ 40) × (h < 65536) }
     ensures { result ≡ second_float file.now statements.now (rows (u32 file.now) 4 h from) s }
@@ -152,7 +150,6 @@ fn has_equal_pair(file: &[u8], from: usize, d: usize) -> bool
 }
 
 // Row 6 for a $a or $p.
-#[tactic(auto, unfolding(frames::specs::Table::bad_assertion, frames::specs::Layout::hyps_at, frames::specs::Layout::pairs_at, frames::specs::Logic::one_of, frames::specs::Logic::either, frames::specs::Logic::no))]
 fn bad_assertion(file: &[u8], symbols: &[u32], statements: &[u32], at: u32) -> bool
     ensures { result ≡ bad_assertion file.now symbols.now statements.now at }
 {
@@ -165,7 +162,6 @@ fn bad_assertion(file: &[u8], symbols: &[u32], statements: &[u32], at: u32) -> b
 }
 
 // 6 BadFrame.
-#[tactic(auto, unfolding(frames::specs::Table::bad_frame, frames::specs::Logic::both))]
 pub fn bad_frame(file: &[u8], symbols: &[u32], statements: &[u32], at: u32) -> bool
     ensures { result ≡ bad_frame file.now symbols.now statements.now at }
 {

@@ -1,4 +1,6 @@
 // Row 5: what the numbers of a statement refer to.
+#![tactic(auto, unfolding(frames::specs::Layout::pair_at, frames::specs::Layout::symbols_at, frames::specs::Layout::pairs_at, frames::specs::Layout::hyps_at, frames::specs::Table::variables, frames::specs::Table::bad_numbers, frames::specs::Table::bad_reference, frames::specs::Logic::both, frames::specs::Logic::one_of, frames::specs::Logic::either, frames::specs::Logic::no, frames::specs::Logic::equal))]
+
 ghost use Rattle.std.specs.Prelude.{◌≡◌, ◌<◌, ◌^◌, length};
 ghost use Rattle.frames.specs.Logic.{all, rising_from, rows};
 ghost use Rattle.frames.specs.Layout.{u16, u32, pair_at, hyps_at, pairs_at, symbols_at};
@@ -26,7 +28,6 @@ fn all_defined(file: &[u8], symbols: &[u32], from: usize, n: usize) -> bool
 }
 
 // Both members of the pair at `from` are variables.
-#[tactic(auto, unfolding(frames::specs::Table::variables, frames::specs::Logic::both, frames::specs::Layout::pair_at))]
 fn are_variables(file: &[u8], symbols: &[u32], from: usize) -> bool
     requires { from < 2 ^ 42 }
     ensures { result ≡ variables file.now symbols.now (pair_at file.now from) }
@@ -80,7 +81,6 @@ fn all_active(file: &[u8], statements: &[u32], from: usize, h: usize) -> bool
 }
 
 // Each symbol of the statement at `at` is defined earlier.
-#[tactic(auto, unfolding(frames::specs::Layout::symbols_at))]
 fn symbols_defined(file: &[u8], symbols: &[u32], at: u32) -> bool
     ensures { result ≡ all (defined symbols.now) (symbols_at file.now at) }
 {
@@ -93,7 +93,6 @@ fn symbols_defined(file: &[u8], symbols: &[u32], at: u32) -> bool
 }
 
 // Each pair of the statement at `at` is one of variables.
-#[tactic(auto, unfolding(frames::specs::Layout::pairs_at))]
 fn pairs_variables(file: &[u8], symbols: &[u32], at: u32) -> bool
     ensures { result ≡ all (variables file.now symbols.now) (pairs_at file.now at) }
 {
@@ -101,7 +100,6 @@ fn pairs_variables(file: &[u8], symbols: &[u32], at: u32) -> bool
 }
 
 // The hypotheses of the statement at `at` rise strictly.
-#[tactic(auto, unfolding(frames::specs::Layout::hyps_at))]
 fn hyps_rise(file: &[u8], at: u32) -> bool
     ensures { result ≡ rising_from 0 (hyps_at file.now at) }
 {
@@ -109,7 +107,6 @@ fn hyps_rise(file: &[u8], at: u32) -> bool
 }
 
 // The hypotheses of the statement at `at`, whose number is the next one, are active $f and $e.
-#[tactic(auto, unfolding(frames::specs::Layout::hyps_at))]
 fn hyps_active(file: &[u8], statements: &[u32], at: u32) -> bool
     ensures { result ≡ all (active file.now statements.now (length statements.now)) (hyps_at file.now at) }
 {
@@ -117,7 +114,6 @@ fn hyps_active(file: &[u8], statements: &[u32], at: u32) -> bool
 }
 
 // Row 5 for a statement.
-#[tactic(auto, unfolding(frames::specs::Table::bad_numbers, frames::specs::Logic::one_of, frames::specs::Logic::either, frames::specs::Logic::both, frames::specs::Logic::no, frames::specs::Logic::equal))]
 fn bad_numbers(file: &[u8], symbols: &[u32], statements: &[u32], at: u32) -> bool
     ensures { result ≡ bad_numbers file.now symbols.now statements.now at }
 {
@@ -130,7 +126,6 @@ fn bad_numbers(file: &[u8], symbols: &[u32], statements: &[u32], at: u32) -> boo
 }
 
 // 5 BadReference.
-#[tactic(auto, unfolding(frames::specs::Table::bad_reference, frames::specs::Logic::both))]
 pub fn bad_reference(file: &[u8], symbols: &[u32], statements: &[u32], at: u32) -> bool
     ensures { result ≡ bad_reference file.now symbols.now statements.now at }
 {

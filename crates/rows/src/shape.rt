@@ -1,5 +1,5 @@
 // Rows 1 and 2: the shape of a record, and the limits.
-#![tactic(auto, unfolding(frames::specs::Logic::one_of, frames::specs::Logic::either, frames::specs::Logic::both, frames::specs::Logic::no, frames::specs::Logic::equal, frames::specs::Logic::below, frames::specs::Logic::at_most, frames::specs::Table::unknown_kind, frames::specs::Table::bad_rest, frames::specs::Table::no_symbols))]
+#![tactic(auto, unfolding(frames::specs::Table::unknown_kind, frames::specs::Table::bad_rest, frames::specs::Table::no_symbols, frames::specs::Table::off_layout, frames::specs::Table::bad_record, frames::specs::Table::cut_short, frames::specs::Table::too_many, frames::specs::Logic::one_of, frames::specs::Logic::either, frames::specs::Logic::both, frames::specs::Logic::no, frames::specs::Logic::equal, frames::specs::Logic::below, frames::specs::Logic::at_most))]
 
 ghost use Rattle.std.specs.Prelude.{◌≡◌};
 ghost use Rattle.frames.specs.Table.{unknown_kind, bad_rest, no_symbols, off_layout, bad_record, too_many};
@@ -30,7 +30,6 @@ fn no_symbols(kind: usize, n: usize) -> bool
 }
 
 // The body is not of its layout: its fixed part and lists do not fit, n is 0, or its name or label has not 1 to 64 bytes.
-#[tactic(auto, unfolding(frames::specs::Table::off_layout, frames::specs::Logic::one_of, frames::specs::Logic::either, frames::specs::Logic::below))]
 fn off_layout(file: &[u8], at: u32) -> bool
     ensures { result ≡ off_layout file.now at }
 {
@@ -41,7 +40,6 @@ fn off_layout(file: &[u8], at: u32) -> bool
 }
 
 // 1 BadRecord.
-#[tactic(auto, unfolding(frames::specs::Table::bad_record, frames::specs::Table::cut_short, frames::specs::Logic::one_of, frames::specs::Logic::either, frames::specs::Logic::both, frames::specs::Logic::equal, frames::specs::Logic::below))]
 pub fn bad_record(file: &[u8], at: u32) -> bool
     ensures { result ≡ bad_record file.now at }
 {
@@ -54,7 +52,6 @@ pub fn bad_record(file: &[u8], at: u32) -> bool
 }
 
 // 2 TooMany.
-#[tactic(auto, unfolding(frames::specs::Table::too_many, frames::specs::Logic::one_of, frames::specs::Logic::either, frames::specs::Logic::both, frames::specs::Logic::equal, frames::specs::Logic::at_most, frames::specs::Logic::below))]
 pub fn too_many(file: &[u8], symbols: &[u32], statements: &[u32], at: u32) -> bool
     ensures { result ≡ too_many file.now symbols.now statements.now at }
 {

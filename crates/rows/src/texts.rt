@@ -1,4 +1,6 @@
 // Rows 3 and 4: names and labels.
+#![tactic(auto, unfolding(frames::specs::Table::bad_symbol, frames::specs::Table::bad_label, frames::specs::Logic::either, frames::specs::Logic::both, frames::specs::Logic::no, frames::specs::Logic::equal))]
+
 ghost use Rattle.std.specs.Prelude.{◌≡◌};
 ghost use Rattle.frames.specs.Table.{bad_symbol, bad_label};
 
@@ -6,7 +8,6 @@ use frames::record::{is_statement, kind_at, rest_at};
 use frames::text::{all_label_bytes, all_name_bytes, is_used};
 
 // 3 BadSymbol.
-#[tactic(auto, unfolding(frames::specs::Table::bad_symbol, frames::specs::Logic::either, frames::specs::Logic::both, frames::specs::Logic::no, frames::specs::Logic::equal))]
 pub fn bad_symbol(file: &[u8], symbols: &[u32], at: u32) -> bool
     ensures { result ≡ bad_symbol file.now symbols.now at }
 {
@@ -18,7 +19,6 @@ pub fn bad_symbol(file: &[u8], symbols: &[u32], at: u32) -> bool
 }
 
 // 4 BadLabel.
-#[tactic(auto, unfolding(frames::specs::Table::bad_label, frames::specs::Logic::either, frames::specs::Logic::both, frames::specs::Logic::no))]
 pub fn bad_label(file: &[u8], statements: &[u32], at: u32) -> bool
     ensures { result ≡ bad_label file.now statements.now at }
 {
