@@ -1,10 +1,8 @@
 -- Laws of bytes and parts of a list that the readers' proofs cite.
-use Prim.Native.Nat.{ℕ, zero, suc, ◌+◌, ◌-◌, ◌≤◌}
-use mathlib.Core.Path.{◌≡◌, refl, sym, ◌∙◌}
-use mathlib.Core.List.{List, [], ◌∷◌}
-use native.Mathlib.Omega.{arith}
-use lib.ListN.{length, take, drop, length-drop, get_or-eq_default, drop_of_length-le}
-use lib.Seq.{take_all, drop-length, take-nil}
+use Prim.Native.Nat.{ℕ, zero, suc, ◌≤◌}
+use mathlib.Core.Path.{◌≡◌}
+use mathlib.Core.List.{List}
+use lib.ListN.{length, get_or-eq_default}
 use lib.Dec.{lit≤}
 use Rattle.frames.specs.Layout.{byte, fixed_size}
 

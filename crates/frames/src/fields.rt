@@ -1,5 +1,6 @@
 // The fields of a symbol or a statement, in the words of the decoded database, read where its record lies in the file. A record
-// is named by its offset, which `symbol_offset` or `statement_offset` finds in the index.
+// is named by its offset, which `symbol_offset` or `statement_offset` finds in the index. A reader of record.rt or refer.rt that stands here
+// again has another contract: there it is on the layout, which the rows of the table ask, here on the decoded database, which all above knows.
 #![tactic(auto, unfolding(crate::specs::Database::symbol_at, crate::specs::Database::statement_at, crate::specs::Logic::pick, crate::specs::Logic::equal))]
 
 ghost use Rattle.std.specs.Prelude.{◌≡◌, ◌<◌, length, get_or};
@@ -34,6 +35,7 @@ pub fn class(file: &[u8], at: u32) -> usize
     record::class_at(file, at)
 }
 
+// The name of a symbol.
 pub fn name(file: &[u8], at: u32) -> &[u8]
     ensures { result.now ≡ (symbol_at file.now at).name }
 {
@@ -58,6 +60,7 @@ pub fn scope_end(file: &[u8], at: u32) -> usize
     }
 }
 
+// The label of a statement.
 pub fn label(file: &[u8], at: u32) -> &[u8]
     ensures { result.now ≡ (statement_at file.now at).label }
 {
@@ -106,6 +109,7 @@ pub fn symbol(file: &[u8], at: u32, i: usize) -> SymbolNo
     refer::symbol(file, at, i)
 }
 
+// The first symbol of a statement.
 pub fn typecode(file: &[u8], at: u32) -> SymbolNo
     ensures { result.0 ≡ get_or (statement_at file.now at).symbols 0 0 }
 {

@@ -28,6 +28,7 @@ fn near_u32(file: &[u8], i: usize) -> usize
     u32::from_le_bytes([file[i], file[i + 1], file[i + 2], file[i + 3]]) as usize
 }
 
+// A number of two bytes.
 pub fn u16_at(file: &[u8], i: usize) -> usize
     requires { i < 2 ^ 61 }
     ensures { (result ≡ u16 file.now i) × (result < 65536) }
@@ -39,6 +40,7 @@ pub fn u16_at(file: &[u8], i: usize) -> usize
     }
 }
 
+// A number of four bytes.
 pub fn u32_at(file: &[u8], i: usize) -> usize
     requires { i < 2 ^ 60 }
     ensures { (result ≡ u32 file.now i) × (result < 4294967296) }

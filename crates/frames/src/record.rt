@@ -9,6 +9,7 @@ use crate::read::{byte_at, part, u16_at, u32_at};
 // The fixed part of each body, by the record's kind.
 const FIXED: [usize; 7] = [0, 1, 8, 6, 6, 6, 0];
 
+// The size of the fixed part of a body; 0 for a kind that is none.
 pub fn fixed_size(kind: usize) -> usize
     ensures { (result ≡ fixed_size kind) × (result ≤ 8) }
 {
@@ -36,18 +37,21 @@ pub fn lists_symbols(kind: usize) -> bool
     kind == 3 || is_assertion(kind)
 }
 
+// $f, $e, $a and $p, the kinds that are numbered as statements.
 pub fn is_statement(kind: usize) -> bool
     ensures { result ≡ is_statement kind }
 {
     is_hypothesis(kind) || is_assertion(kind)
 }
 
+// The length of a record: how many bytes follow its four length bytes.
 pub fn length_at(file: &[u8], at: u32) -> usize
     ensures { (result ≡ length_at file.now at) × (result < 4294967296) }
 {
     u32_at(file, at as usize)
 }
 
+// The kind of a record.
 pub fn kind_at(file: &[u8], at: u32) -> usize
     ensures { (result ≡ kind_at file.now at) × (result < 65536) }
 {
@@ -61,18 +65,21 @@ pub fn next_at(file: &[u8], at: u32) -> usize
     at as usize + 4 + length_at(file, at)
 }
 
+// The class of a symbol.
 pub fn class_at(file: &[u8], at: u32) -> usize
     ensures { (result ≡ class_at file.now at) × (result < 256) }
 {
     byte_at(file, at as usize + 6)
 }
 
+// The scope end of a $f or $e.
 pub fn scope_end_at(file: &[u8], at: u32) -> usize
     ensures { (result ≡ scope_end_at file.now at) × (result < 4294967296) }
 {
     u32_at(file, at as usize + 6)
 }
 
+// How many hypotheses a $a or $p lists.
 pub fn hyp_count(file: &[u8], at: u32) -> usize
     ensures { (result ≡ hyp_count file.now at) × (result < 65536) }
 {
@@ -83,6 +90,7 @@ pub fn hyp_count(file: &[u8], at: u32) -> usize
     }
 }
 
+// How many pairs a $a or $p lists.
 pub fn pair_count(file: &[u8], at: u32) -> usize
     ensures { (result ≡ pair_count file.now at) × (result < 65536) }
 {
@@ -93,6 +101,7 @@ pub fn pair_count(file: &[u8], at: u32) -> usize
     }
 }
 
+// How many symbols a $e, $a or $p lists.
 pub fn listed_count(file: &[u8], at: u32) -> usize
     ensures { (result ≡ listed_count file.now at) × (result < 65536) }
 {
@@ -110,6 +119,7 @@ pub fn lists_from(file: &[u8], at: u32) -> usize
     at as usize + 6 + fixed_size(kind_at(file, at))
 }
 
+// Where the pairs begin.
 pub fn pairs_from(file: &[u8], at: u32) -> usize
     ensures { (result ≡ pairs_from file.now at) × (result < 4295300000) }
 {
@@ -147,6 +157,7 @@ pub fn rest_from(file: &[u8], at: u32) -> usize
     any_listed_from(file, at) + 2 * listed_count(file, at)
 }
 
+// How many bytes the rest of the body has.
 pub fn rest_size(file: &[u8], at: u32) -> usize
     ensures { (result ≡ rest_size file.now at) × (result < 2 ^ 34) }
 {
@@ -190,6 +201,7 @@ pub fn symbol_count(file: &[u8], at: u32) -> usize
     }
 }
 
+// Where the symbols of a statement begin.
 pub fn symbols_from(file: &[u8], at: u32) -> usize
     ensures { (result ≡ symbols_from file.now at) × (result < 2 ^ 33) }
 {

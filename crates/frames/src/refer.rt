@@ -46,6 +46,7 @@ pub fn symbol(file: &[u8], at: u32, i: usize) -> SymbolNo
     }
 }
 
+// The first symbol of a statement.
 pub fn typecode(file: &[u8], at: u32) -> SymbolNo
     ensures { result.0 ≡ typecode_at file.now at }
 {
@@ -103,12 +104,14 @@ pub fn class_of(file: &[u8], symbols: &[u32], s: SymbolNo) -> usize
     }
 }
 
+// Symbol s is defined and a constant.
 pub fn is_constant(file: &[u8], symbols: &[u32], s: SymbolNo) -> bool
     ensures { result ≡ constant file.now symbols.now s.0 }
 {
     class_of(file, symbols, s) == 0
 }
 
+// Symbol s is defined and a variable.
 pub fn is_variable(file: &[u8], symbols: &[u32], s: SymbolNo) -> bool
     ensures { result ≡ variable file.now symbols.now s.0 }
 {

@@ -9,6 +9,7 @@ use frames::record::{
     pair_count, rest_from, rest_size,
 };
 
+// Kinds are 1 to 6.
 fn unknown_kind(kind: usize) -> bool
     ensures { result ≡ unknown_kind kind }
 {

@@ -54,8 +54,5 @@ pub fn letter(b: u8) -> Letter
 pub fn find(token: &[u8], sign: u8) -> usize
     ensures { result ≡ sign_at sign token.now }
 {
-    token
-        .iter()
-        .position(|b| *b == sign)
-        .unwrap_or(token.len())
+    token.iter().position(|b| *b == sign).unwrap_or(token.len())
 }

@@ -12,4 +12,4 @@ returns c =
     let sign = c.args.sign in
     c.unwrap_or.ensures
     ∙ found-sign sign c.args.token.now
-      (position_from_yields_List (λ b. eqb b sign) _ _ c.position.result c.position.ensures.ran (YieldsList-from_slice c.args.token.now cc) (λ x b q k. search (rules, tests)))
+    (position_from_yields_List (λ b. eqb b sign) _ _ c.position.result c.position.ensures.ran (YieldsList-from_slice c.args.token.now cc) (λ x b q k. search (rules, tests)))

@@ -7,7 +7,6 @@ use Rattle.frames.proofs.Loops.{all_done, all_more, all_none, all-stop, here-row
 use Rattle.frames.specs.Layout.{symbols_at, u16, u32}
 use Rattle.frames.specs.Logic.{all, rows}
 use Rattle.frames.specs.Table.{all_given, symbol_given}
-use borrow.Author.Rules.{rules}
 use native.Mathlib.Omega.{arith}
 use Rattle.rows.proofs.framing.are_given.Goals as goal
 

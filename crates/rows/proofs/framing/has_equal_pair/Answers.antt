@@ -4,7 +4,6 @@ use Rattle.frames.proofs.Loops.{any-done, any-more, any_none, any-stop, here-row
 use Rattle.frames.specs.Layout.{pair_at}
 use Rattle.frames.specs.Logic.{rows}
 use Rattle.frames.specs.Table.{equal_members}
-use borrow.Author.Rules.{rules}
 use native.Mathlib.Omega.{arith}
 use Rattle.rows.proofs.framing.has_equal_pair.Goals as goal
 

@@ -4,7 +4,6 @@ use Rattle.frames.proofs.Loops.{all_done, all_more, all_none, all-stop, here-row
 use Rattle.frames.specs.Layout.{u16}
 use Rattle.frames.specs.Logic.{rows}
 use Rattle.frames.specs.Table.{defined}
-use borrow.Author.Rules.{rules}
 use native.Mathlib.Omega.{arith}
 use Rattle.rows.proofs.numbers.all_defined.Goals as goal
 
