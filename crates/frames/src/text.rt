@@ -29,7 +29,8 @@ pub fn all_name_bytes(name: &[u8]) -> bool
     name.iter().all(|b| name_byte(*b))
 }
 
-// Whether each byte of a label is a label byte.
+// Whether each byte of a label is a label byte. (Its own function and not one with a test handed to it, as that would have to say
+// in its contract which words the test answers for, and each is one line.)
 pub fn all_label_bytes(label: &[u8]) -> bool
     ensures { result ≡ all label_byte label.now }
 {

@@ -18,7 +18,7 @@ pub fn bad_symbol(file: &[u8], symbols: &[u32], at: u32) -> bool
     !all_name_bytes(name) || is_used(file, symbols, name)
 }
 
-// 4 BadLabel.
+// 4 BadLabel. (The same form as row 3 with three other names; one function over them would be no shorter.)
 pub fn bad_label(file: &[u8], statements: &[u32], at: u32) -> bool
     ensures { result ≡ bad_label file.now statements.now at }
 {

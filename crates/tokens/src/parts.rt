@@ -37,7 +37,7 @@ pub fn local_label(token: &[u8], colon: usize, equals: usize) -> &[u8]
     part_before(token, colon, equals)
 }
 
-// Whether the token gives a mark: it has a `=`.
+// Whether the token gives a mark: it has a `=`. (One comparison as in `has_local`, but each contract speaks of another part of `split`.)
 pub fn has_mark(token: &[u8], equals: usize) -> bool
     requires { equals ≡ sign_at 61 token.now }
     ensures { result ≡ is_some (split token.now).mark }

@@ -16,13 +16,12 @@ pub fn map_var(numbers: &mut [u32], count: u32, v: SymbolNo) -> u32
     ensures { Maps numbers.old count v.0 numbers.new result }
 {
     let s = v.0;
-    if s < numbers.len() {
-        if numbers[s] == 0 {
-            numbers[s] = count + 1;
-            return count + 1;
-        }
+    if s < numbers.len() && numbers[s] == 0 {
+        numbers[s] = count + 1;
+        count + 1
+    } else {
+        count
     }
-    count
 }
 
 // Numbers the members of the pairs of the statement at `at`, as they are met.
