@@ -10,6 +10,7 @@ ghost use Rattle.frames.specs.Verdict.{Checked};
 ghost use Rattle.filecheck.specs.Walk.{Advanced};
 
 use frames::record::{is_statement, kind_at, next_at};
+use frames::refer::lay;
 use frames::{Refusal, Sizes, TurnedAway, Verdict};
 use rows::{bad_frame, bad_label, bad_record, bad_reference, bad_symbol, no_proof, too_many};
 
@@ -63,55 +64,32 @@ pub struct Walk {
     pub owed: bool,
 }
 
-// Lays an offset into a table.
-fn lay(table: &mut [u32], i: usize, at: u32)
-    ensures { table.new ≡ set table.old i at }
-{
-    if i < table.len() {
-        table[i] = at;
-    }
-}
-
-// Lays the offset of a symbol into the table of symbols, and counts it.
-fn take_symbol(symbols: &mut [u32], count: usize, kind: usize, at: u32) -> usize
+// Lays the offset of a record into the table of its kind, if it is of that kind, and counts it.
+#[tactic(auto, unfolding(frames::specs::Logic::pick))]
+fn lay_if(table: &mut [u32], count: usize, of_kind: bool, at: u32) -> usize
     requires { count < 5000 }
-    ensures { (result ≡ pick (equal kind 1) (count + 1) count) × (symbols.new ≡ pick (equal kind 1) (set symbols.old count at) symbols.old) }
+    ensures { (result ≡ pick of_kind (count + 1) count) × (table.new ≡ pick of_kind (set table.old count at) table.old) }
 {
-    if kind == 1 {
-        lay(symbols, count, at);
-        return count + 1;
+    if of_kind {
+        lay(table, count, at);
+        count + 1
+    } else {
+        count
     }
-    count
-}
-
-// Lays the offset of a statement into the table of statements, and counts it.
-fn take_statement(statements: &mut [u32], count: usize, kind: usize, at: u32) -> usize
-    requires { count < 5000 }
-    ensures { (result ≡ pick (is_statement kind) (count + 1) count) × (statements.new ≡ pick (is_statement kind) (set statements.old count at) statements.old) }
-{
-    if is_statement(kind) {
-        lay(statements, count, at);
-        return count + 1;
-    }
-    count
 }
 
 // Where the walk stands after the record at `st.at`, which is good.
+#[tactic(auto, unfolding(frames::specs::Logic::equal))]
 fn advance(file: &[u8], symbols: &mut [u32], statements: &mut [u32], st: Walk) -> Walk
     requires { (st.symbols < 5000) × ((st.statements < 5000) × (next_at file.now st.at < 4294967296)) }
     ensures { Advanced file.now symbols.old statements.old st symbols.new statements.new result }
 {
     let at = st.at;
-    let n = st.symbols;
-    let m = st.statements;
     let kind = kind_at(file, at);
-    let next = next_at(file, at);
-    let symbols_now = take_symbol(symbols, n, kind, at);
-    let statements_now = take_statement(statements, m, kind, at);
     Walk {
-        at: next as u32,
-        symbols: symbols_now,
-        statements: statements_now,
+        at: next_at(file, at) as u32,
+        symbols: lay_if(symbols, st.symbols, kind == 1, at),
+        statements: lay_if(statements, st.statements, is_statement(kind), at),
         owed: kind == 5,
     }
 }

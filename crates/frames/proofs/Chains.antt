@@ -51,10 +51,6 @@ pub no-of-false : {t : Bool} → t ≡ false → no t ≡ true
 unfolding no
 no-of-false e = rw e refl
 
-pub one-here : {t x : Bool} (ts : List Bool) → t ≡ true → x ≡ true → x ≡ one_of (t ∷ ts)
-unfolding one_of either
-one-here ts e h = rw e h
-
 pub one_later : {t x : Bool} (ts : List Bool) → t ≡ false → x ≡ one_of ts → x ≡ one_of (t ∷ ts)
 unfolding one_of either
 one_later ts e h = rw e h
@@ -127,15 +123,6 @@ moved p e g = e ∙ ap p g
 -- and where `r` is known
 pub told : {A B : Type 0} (p : A → B) {x y : A} {r b : B} → r ≡ p x → x ≡ y → r ≡ b → p y ≡ b
 told p e g h = sym (moved p e g) ∙ h
-
--- one of two tests, each told by an answer
-pub either-of : {t t' u u' r : Bool} → r ≡ either t u → t ≡ t' → u ≡ u' → r ≡ either t' u'
-either-of e g h = cc
-
--- row 5 on answers that are equal
-pub reference-same : {d d' k k' g g' v v' p p' r r' a a' : Bool} → d ≡ d' → k ≡ k' → g ≡ g' → v ≡ v' → p ≡ p' → r ≡ r' → a ≡ a'
-    → one_of (no d ∷ no k ∷ both g (no v) ∷ no p ∷ no r ∷ no a ∷ []) ≡ one_of (no d' ∷ no k' ∷ both g' (no v') ∷ no p' ∷ no r' ∷ no a' ∷ [])
-reference-same d k g v p r a = cc
 
 -- the refusals of a record, in their order
 pub unless-stop : {t : Bool} {why : Refusal} {x : Fault} (rest : Fault) → t ≡ true → x ≡ Some why → x ≡ unless t why rest

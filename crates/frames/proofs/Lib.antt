@@ -3,6 +3,7 @@ pub mod Parts
 pub mod Naming
 pub mod Listing
 pub mod Chains
+pub mod Words
 pub mod Loops
 pub mod Found
 pub mod Tables

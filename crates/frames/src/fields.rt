@@ -1,5 +1,8 @@
 // The fields of a symbol or a statement, in the words of the decoded database, read where its record lies in the file. A record
-// is named by its offset, which `symbol_offset` or `statement_offset` finds in the index.
+// is named by its offset, which `symbol_offset` or `statement_offset` finds in the index. A reader of record.rt or refer.rt that stands here
+// again has another contract: there it is on the layout, which the rows of the table ask, here on the decoded database, which all above knows.
+#![tactic(auto, unfolding(crate::specs::Database::symbol_at, crate::specs::Database::statement_at, crate::specs::Logic::pick, crate::specs::Logic::equal))]
+
 ghost use Rattle.std.specs.Prelude.{◌≡◌, ◌<◌, length, get_or};
 ghost use Rattle.frames.specs.Layout.{next_at};
 ghost use Rattle.frames.specs.Database.{symbol_at, statement_at};
@@ -15,16 +18,14 @@ use crate::{record, refer};
 pub fn symbol_offset(symbols: &[u32], s: SymbolNo) -> u32
     ensures { result ≡ get_or symbols.now s.0 0 }
 {
-    let n = s.0;
-    refer::entry(symbols, n)
+    refer::entry(symbols, s.0)
 }
 
 // The offset of a statement's record; 0 for a number that is not defined.
 pub fn statement_offset(statements: &[u32], p: StatementNo) -> u32
     ensures { result ≡ get_or statements.now p.0 0 }
 {
-    let n = p.0;
-    refer::entry(statements, n)
+    refer::entry(statements, p.0)
 }
 
 // The class of a symbol: 0 constant, 1 variable.
@@ -34,6 +35,7 @@ pub fn class(file: &[u8], at: u32) -> usize
     record::class_at(file, at)
 }
 
+// The name of a symbol.
 pub fn name(file: &[u8], at: u32) -> &[u8]
     ensures { result.now ≡ (symbol_at file.now at).name }
 {
@@ -52,11 +54,13 @@ pub fn scope_end(file: &[u8], at: u32) -> usize
     ensures { result ≡ (statement_at file.now at).end }
 {
     if record::is_hypothesis(record::kind_at(file, at)) {
-        return record::scope_end_at(file, at);
+        record::scope_end_at(file, at)
+    } else {
+        0
     }
-    0
 }
 
+// The label of a statement.
 pub fn label(file: &[u8], at: u32) -> &[u8]
     ensures { result.now ≡ (statement_at file.now at).label }
 {
@@ -105,13 +109,15 @@ pub fn symbol(file: &[u8], at: u32, i: usize) -> SymbolNo
     refer::symbol(file, at, i)
 }
 
+// The first symbol of a statement.
 pub fn typecode(file: &[u8], at: u32) -> SymbolNo
     ensures { result.0 ≡ get_or (statement_at file.now at).symbols 0 0 }
 {
     if record::kind_at(file, at) == 2 {
-        return SymbolNo(u16_at(file, at as usize + 10));
+        SymbolNo(u16_at(file, at as usize + 10))
+    } else {
+        refer::symbol(file, at, 0)
     }
-    refer::symbol(file, at, 0)
 }
 
 // The variable of a $f.
@@ -119,9 +125,10 @@ pub fn variable(file: &[u8], at: u32) -> SymbolNo
     ensures { result.0 ≡ get_or (statement_at file.now at).symbols 1 0 }
 {
     if record::kind_at(file, at) == 2 {
-        return SymbolNo(u16_at(file, at as usize + 12));
+        SymbolNo(u16_at(file, at as usize + 12))
+    } else {
+        refer::symbol(file, at, 1)
     }
-    refer::symbol(file, at, 1)
 }
 
 // The proof text of a $p, as a part of the file: the rest of the record that follows it. Any other statement has none.

@@ -5,7 +5,6 @@ ghost use Rattle.std.specs.Prelude.{◌≡◌};
 ghost use Rattle.frames.specs.Verdict.{number_of};
 
 pub mod fields;
-pub mod logic;
 pub mod numbers;
 pub mod read;
 pub mod record;

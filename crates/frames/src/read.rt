@@ -1,18 +1,15 @@
 // Total readers of the file's bytes: a byte past the end reads as 0. Numbers ask only that their offset is far from the end of `usize`;
 // where all their bytes are in the file they are read by one test of the length.
+#![tactic(auto, unfolding(crate::specs::Layout::byte, crate::specs::Layout::u16, crate::specs::Layout::u32))]
+
 ghost use Rattle.std.specs.Prelude.{◌≡◌, ◌<◌, ◌^◌, ◌+◌, length, take, drop};
 ghost use Rattle.frames.specs.Layout.{byte, u16, u32};
 
-fn wide(b: u8) -> usize
-    ensures { (result ≡ b) × (result < 256) }
-{
-    b as usize
-}
-
+// A byte of the file.
 pub fn byte_at(file: &[u8], i: usize) -> usize
     ensures { (result ≡ byte file.now i) × (result < 256) }
 {
-    if i < file.len() { wide(file[i]) } else { 0 }
+    file.get(i).copied().unwrap_or(0) as usize
 }
 
 // A number of two bytes that are in the file.
@@ -20,9 +17,7 @@ fn near_u16(file: &[u8], i: usize) -> usize
     requires { i + 1 < length file.now }
     ensures { (result ≡ u16 file.now i) × (result < 65536) }
 {
-    let low = wide(file[i]);
-    let high = wide(file[i + 1]);
-    low + 256 * high
+    u16::from_le_bytes([file[i], file[i + 1]]) as usize
 }
 
 // A number of four bytes that are in the file.
@@ -30,45 +25,38 @@ fn near_u32(file: &[u8], i: usize) -> usize
     requires { i + 3 < length file.now }
     ensures { (result ≡ u32 file.now i) × (result < 4294967296) }
 {
-    let first = wide(file[i]);
-    let second = wide(file[i + 1]);
-    let third = wide(file[i + 2]);
-    let fourth = wide(file[i + 3]);
-    first + 256 * second + 65536 * (third + 256 * fourth)
+    u32::from_le_bytes([file[i], file[i + 1], file[i + 2], file[i + 3]]) as usize
 }
 
+// A number of two bytes.
 pub fn u16_at(file: &[u8], i: usize) -> usize
     requires { i < 2 ^ 61 }
     ensures { (result ≡ u16 file.now i) × (result < 65536) }
 {
     if i + 1 < file.len() {
-        return near_u16(file, i);
+        near_u16(file, i)
+    } else {
+        byte_at(file, i)
     }
-    byte_at(file, i)
 }
 
+// A number of four bytes.
 pub fn u32_at(file: &[u8], i: usize) -> usize
     requires { i < 2 ^ 60 }
     ensures { (result ≡ u32 file.now i) × (result < 4294967296) }
 {
     if i + 3 < file.len() {
-        return near_u32(file, i);
+        near_u32(file, i)
+    } else {
+        u16_at(file, i) + 65536 * u16_at(file, i + 2)
     }
-    u16_at(file, i) + 65536 * u16_at(file, i + 2)
 }
 
 // The bytes from `from` on, at most `size` of them, as a part of the file.
 pub fn part(file: &[u8], from: usize, size: usize) -> &[u8]
     ensures { result.now ≡ take size (drop from file.now) }
 {
-    if from <= file.len() {
-        let left = file.len() - from;
-        if size <= left {
-            let end = from + size;
-            return &file[from..end];
-        }
-        return &file[from..];
-    }
-    let end = file.len();
-    &file[end..]
+    let from = from.min(file.len());
+    let size = size.min(file.len() - from);
+    &file[from..from + size]
 }

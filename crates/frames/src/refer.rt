@@ -1,5 +1,7 @@
 // What the numbers in a record refer to: a symbol's class, a statement's kind, whether a hypothesis is active.
-ghost use Rattle.std.specs.Prelude.{◌≡◌, ◌<◌, get_or};
+#![tactic(auto, unfolding(crate::specs::Layout::typecode_at, crate::specs::Layout::variable_at, crate::specs::Table::class_of, crate::specs::Table::constant, crate::specs::Table::variable, crate::specs::Table::within, crate::specs::Table::active, crate::specs::Table::float_of, crate::specs::Logic::pick, crate::specs::Logic::below, crate::specs::Logic::equal, crate::specs::Logic::either, crate::specs::Logic::both))]
+
+ghost use Rattle.std.specs.Prelude.{◌≡◌, ◌<◌, get_or, set};
 ghost use Rattle.frames.specs.Layout.{symbols_at, hyps_at, pairs_at, typecode_at, variable_at};
 ghost use Rattle.frames.specs.Table.{class_of, constant, variable, within, active, float_of};
 
@@ -10,11 +12,27 @@ use crate::record::{
     symbol_count, symbols_from,
 };
 
+// An entry of a table; `none` past its end.
+pub fn entry_or<T: Copy>(table: &[T], i: usize, none: T) -> T
+    ensures { result ≡ get_or table.now i none }
+{
+    table.get(i).copied().unwrap_or(none)
+}
+
 // An entry of a table of offsets; 0 past its end.
 pub fn entry(table: &[u32], i: usize) -> u32
     ensures { result ≡ get_or table.now i 0 }
 {
-    if i < table.len() { table[i] } else { 0 }
+    entry_or(table, i, 0)
+}
+
+// Lays an entry into a table; past the table's end nothing. (Written with `get_mut` it is no plainer, and the check leaves two goals.)
+pub fn lay<T: Copy>(table: &mut [T], i: usize, x: T)
+    ensures { table.new ≡ set table.old i x }
+{
+    if i < table.len() {
+        table[i] = x;
+    }
 }
 
 // The i-th symbol of a statement, the typecode first; 0 past the last.
@@ -22,11 +40,13 @@ pub fn symbol(file: &[u8], at: u32, i: usize) -> SymbolNo
     ensures { result.0 ≡ get_or (symbols_at file.now at) i 0 }
 {
     if i < symbol_count(file, at) {
-        return SymbolNo(u16_at(file, symbols_from(file, at) + 2 * i));
+        SymbolNo(u16_at(file, symbols_from(file, at) + 2 * i))
+    } else {
+        SymbolNo(0)
     }
-    SymbolNo(0)
 }
 
+// The first symbol of a statement.
 pub fn typecode(file: &[u8], at: u32) -> SymbolNo
     ensures { result.0 ≡ typecode_at file.now at }
 {
@@ -45,9 +65,10 @@ pub fn hypothesis(file: &[u8], at: u32, i: usize) -> StatementNo
     ensures { result.0 ≡ get_or (hyps_at file.now at) i 0 }
 {
     if i < hyp_count(file, at) {
-        return StatementNo(u32_at(file, lists_from(file, at) + 4 * i));
+        StatementNo(u32_at(file, lists_from(file, at) + 4 * i))
+    } else {
+        StatementNo(0)
     }
-    StatementNo(0)
 }
 
 // A pair of symbol numbers.
@@ -77,19 +98,20 @@ pub fn pair_of(file: &[u8], at: u32, i: usize) -> Pair
 pub fn class_of(file: &[u8], symbols: &[u32], s: SymbolNo) -> usize
     ensures { result ≡ class_of file.now symbols.now s.0 }
 {
-    let n = s.0;
-    if n < symbols.len() {
-        return class_at(file, symbols[n]);
+    match symbols.get(s.0) {
+        Some(at) => class_at(file, *at),
+        None => 2,
     }
-    2
 }
 
+// Symbol s is defined and a constant.
 pub fn is_constant(file: &[u8], symbols: &[u32], s: SymbolNo) -> bool
     ensures { result ≡ constant file.now symbols.now s.0 }
 {
     class_of(file, symbols, s) == 0
 }
 
+// Symbol s is defined and a variable.
 pub fn is_variable(file: &[u8], symbols: &[u32], s: SymbolNo) -> bool
     ensures { result ≡ variable file.now symbols.now s.0 }
 {
@@ -100,37 +122,21 @@ pub fn is_variable(file: &[u8], symbols: &[u32], s: SymbolNo) -> bool
 fn reaches(end: usize, p: usize) -> bool
     ensures { result ≡ within end p }
 {
-    if end == 4294967295 {
-        return true;
-    }
-    p < end
+    end == 4294967295 || p < end
 }
 
 // Statement s is a $f or $e that is active at statement p.
 pub fn is_active(file: &[u8], statements: &[u32], p: StatementNo, s: StatementNo) -> bool
     ensures { result ≡ active file.now statements.now p.0 s.0 }
 {
-    let n = s.0;
-    let own = p.0;
-    if own <= n {
-        return false;
-    }
-    let at = entry(statements, n);
-    if !is_hypothesis(kind_at(file, at)) {
-        return false;
-    }
-    reaches(scope_end_at(file, at), own)
+    let at = entry(statements, s.0);
+    s.0 < p.0 && is_hypothesis(kind_at(file, at)) && reaches(scope_end_at(file, at), p.0)
 }
 
 // Statement h is a $f of variable v.
 pub fn is_float_of(file: &[u8], statements: &[u32], v: SymbolNo, h: StatementNo) -> bool
     ensures { result ≡ float_of file.now statements.now v.0 h.0 }
 {
-    let of = v.0;
     let at = entry(statements, h.0);
-    if kind_at(file, at) != 2 {
-        return false;
-    }
-    let x = float_variable(file, at);
-    x.0 == of
+    kind_at(file, at) == 2 && float_variable(file, at) == v
 }

@@ -1,76 +1,47 @@
 // Names and labels: which bytes they have, when two are the same, and which record bears one.
+#![tactic(auto, unfolding(crate::specs::Table::name_byte, crate::specs::Table::label_byte, crate::specs::Logic::both, crate::specs::Logic::no, crate::specs::Logic::at_most, crate::specs::Logic::equal, crate::specs::Logic::one_of, crate::specs::Logic::either))]
+
 ghost use Rattle.std.specs.Prelude.{◌≡◌};
-ghost use Rattle.frames.specs.Logic as words;
-ghost use Rattle.frames.specs.Logic.{at_most, all, same};
+ghost use Rattle.frames.specs.Logic.{all, same};
 ghost use Rattle.frames.specs.Table.{name_byte, label_byte, used};
 ghost use Rattle.frames.specs.Search.{Finds};
 
-use crate::logic::{both, either, no};
 use crate::record::rest_at;
 
-fn between(b: u8, low: u8, high: u8) -> bool
-    ensures { result ≡ words.both (at_most low b) (at_most b high) }
-{
-    both(low <= b, b <= high)
-}
-
+// Name bytes are 21 to 7E hex, without `$`.
 pub fn name_byte(b: u8) -> bool
     ensures { result ≡ name_byte b }
 {
-    both(between(b, 33, 126), no(b == 36))
+    b.is_ascii_graphic() && b != b'$'
 }
 
+// Label bytes are letters, digits, `-`, `_`, `.`.
 pub fn label_byte(b: u8) -> bool
     ensures { result ≡ label_byte b }
 {
-    let sign = either(b == b'-', either(b == b'_', either(b == b'.', false)));
-    let digit = either(between(b, b'0', b'9'), sign);
-    either(
-        between(b, b'a', b'z'),
-        either(between(b, b'A', b'Z'), digit),
-    )
+    b.is_ascii_alphanumeric() || matches!(b, b'-' | b'_' | b'.')
 }
 
+// Whether each byte of a name is a name byte.
 pub fn all_name_bytes(name: &[u8]) -> bool
     ensures { result ≡ all name_byte name.now }
 {
-    let mut i = 0;
-    while i < name.len() {
-        if !name_byte(name[i]) {
-            return false;
-        }
-        i += 1;
-    }
-    true
+    name.iter().all(|b| name_byte(*b))
 }
 
+// Whether each byte of a label is a label byte. (Its own function and not one with a test handed to it, as that would have to say
+// in its contract which words the test answers for, and each is one line.)
 pub fn all_label_bytes(label: &[u8]) -> bool
     ensures { result ≡ all label_byte label.now }
 {
-    let mut i = 0;
-    while i < label.len() {
-        if !label_byte(label[i]) {
-            return false;
-        }
-        i += 1;
-    }
-    true
+    label.iter().all(|b| label_byte(*b))
 }
 
+// Whether two names or labels are the same.
 pub fn same_bytes(a: &[u8], b: &[u8]) -> bool
     ensures { result ≡ same a.now b.now }
 {
-    if a.len() != b.len() {
-        return false;
-    }
-    let mut i = 0;
-    while i < a.len() {
-        if a[i] != b[i] {
-            return false;
-        }
-        i += 1;
-    }
-    true
+    a == b
 }
 
 // Looks among the records at these offsets for one with this name or label: its number.

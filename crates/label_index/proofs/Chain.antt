@@ -11,7 +11,6 @@ use lib.ListN.{length, get_or, set, drop, drop_of_length-le, length-set}
 use Rattle.facts.proofs.Kept.{pick-cases}
 use lib.Seq.{get_or-set_same, get_or-set_other}
 use Rattle.frames.specs.Logic.{equal, pick, any, either, same}
-use Rattle.frames.specs.Layout.{rest_at}
 use Rattle.frames.specs.Table.{used, named}
 use Rattle.frames.proofs.Chains.{equal-yes, equal-no, equal-true, equal-false}
 use Rattle.frames.proofs.Loops.{Here}

@@ -1,5 +1,5 @@
 -- What the index of labels holds: for each hash a chain of the statements whose labels have it, the last statement first.
-use Rattle.std.specs.Prelude.{ℕ, zero, suc, ◌+◌, ◌*◌, ◌%◌, ◌<◌, ◌≤◌, ◌≡◌, List, [], ◌∷◌, length, get_or, set}
+use Rattle.std.specs.Prelude.{ℕ, zero, suc, ◌+◌, ◌*◌, ◌%◌, ◌<◌, ◌≡◌, List, [], ◌∷◌, length, get_or, set}
 use Rattle.frames.specs.Logic.{equal, pick}
 use Rattle.frames.specs.Layout.{rest_at}
 

@@ -18,10 +18,8 @@ pub fn hash(label: &[u8]) -> usize
     ensures { (result ≡ hash_of label.now) × (result < 8192) }
 {
     let mut h: usize = 0;
-    let mut i = 0;
-    while i < label.len() {
-        h = (h * 613 + label[i] as usize) % 8192;
-        i += 1;
+    for b in label {
+        h = (h * 613 + *b as usize) % 8192;
     }
     h
 }
@@ -41,11 +39,9 @@ fn put_all(file: &[u8], statements: &[u32], labels: &mut [u32])
     requires statements_len_bound { length statements.now ≤ 4096 }
     ensures { Labelled file.now statements.now labels.new }
 {
-    let mut i = 0;
-    while i < statements.len() {
-        let b = hash(rest_at(file, statements[i]));
+    for (i, at) in statements.iter().enumerate() {
+        let b = hash(rest_at(file, *at));
         put(labels, b, i);
-        i += 1;
     }
 }
 

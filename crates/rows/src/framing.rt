@@ -1,11 +1,11 @@
 // Row 6: whether the frame of a $a or $p is one.
-ghost use Rattle.std.specs.Prelude.{◌≡◌, ◌∷◌, [], ◌<◌, ◌^◌};
-ghost use Rattle.frames.specs.Logic as words;
-ghost use Rattle.frames.specs.Logic.{one_of, any, rows};
-ghost use Rattle.frames.specs.Layout.{u32, pair_at, symbols_at};
-ghost use Rattle.frames.specs.Table.{has_float, symbol_given, all_given, lacks_float, second_float, equal_members, bad_assertion, bad_frame};
+#![tactic(auto, unfolding(frames::specs::Layout::hyps_at, frames::specs::Layout::pairs_at, frames::specs::Table::float_below, frames::specs::Table::symbol_given, frames::specs::Table::lacks_float, frames::specs::Table::second_float, frames::specs::Table::bad_assertion, frames::specs::Table::bad_frame, frames::specs::Logic::both, frames::specs::Logic::below, frames::specs::Logic::either, frames::specs::Logic::no, frames::specs::Logic::equal, frames::specs::Logic::one_of))]
 
-use frames::logic::{both, either, no};
+ghost use Rattle.std.specs.Prelude.{◌≡◌, ◌<◌, ◌^◌};
+ghost use Rattle.frames.specs.Logic.{any, rows};
+ghost use Rattle.frames.specs.Layout.{u32, pair_at, symbols_at};
+ghost use Rattle.frames.specs.Table.{float_below, has_float, symbol_given, all_given, lacks_float, second_float, equal_members, bad_assertion, bad_frame};
+
 use frames::numbers::{StatementNo, SymbolNo};
 use frames::read::{u16_at, u32_at};
 use frames::record::{
@@ -14,7 +14,14 @@ use frames::record::{
 };
 use frames::refer::{entry, float_variable, is_float_of, is_variable};
 
-// One of the h listed hypotheses from `from` on is a $f of variable v with a number below `limit`.
+// Statement s is a $f of variable v, and its number is below `limit`.
+fn is_float_below(file: &[u8], statements: &[u32], limit: usize, v: SymbolNo, s: usize) -> bool
+    ensures { result ≡ float_below file.now statements.now limit v.0 s }
+{
+    s < limit && is_float_of(file, statements, v, StatementNo(s))
+}
+
+// One of the h listed hypotheses from `from` on is such a $f.
 fn has_float(
     file: &[u8],
     statements: &[u32],
@@ -26,13 +33,11 @@ fn has_float(
     requires { (from < 2 ^ 40) × (h < 65536) }
     ensures { result ≡ has_float file.now statements.now (rows (u32 file.now) 4 h from) limit v.0 }
 {
-    let mut i = 0;
-    while i < h {
+    for i in 0..h {
         let s = u32_at(file, from + 4 * i);
-        if both(s < limit, is_float_of(file, statements, v, StatementNo(s))) {
+        if is_float_below(file, statements, limit, v, s) {
             return true;
         }
-        i += 1;
     }
     false
 }
@@ -50,10 +55,7 @@ fn is_symbol_given(
     requires { (from < 2 ^ 40) × (h < 65536) }
     ensures { result ≡ symbol_given file.now symbols.now statements.now (rows (u32 file.now) 4 h from) limit s.0 }
 {
-    if is_variable(file, symbols, s) {
-        return has_float(file, statements, from, h, limit, s);
-    }
-    true
+    !is_variable(file, symbols, s) || has_float(file, statements, from, h, limit, s)
 }
 
 // Every variable among the symbols of the statement at `at` has a listed $f below `limit`.
@@ -71,12 +73,9 @@ fn are_given(
 {
     let first = symbols_from(file, at);
     let n = symbol_count(file, at);
-    let mut i = 0;
-    while i < n {
-        let s = u16_at(file, first + 2 * i);
-        if is_symbol_given(file, symbols, statements, from, h, limit, SymbolNo(s)) {
-            i += 1;
-        } else {
+    for i in 0..n {
+        let s = SymbolNo(u16_at(file, first + 2 * i));
+        if !is_symbol_given(file, symbols, statements, from, h, limit, s) {
             return false;
         }
     }
@@ -96,10 +95,7 @@ fn lacks_float(
     ensures { result ≡ lacks_float file.now symbols.now statements.now (rows (u32 file.now) 4 h from) s }
 {
     let at = entry(statements, s);
-    if kind_at(file, at) == 3 {
-        return no(are_given(file, symbols, statements, from, h, s, at));
-    }
-    false
+    kind_at(file, at) == 3 && !are_given(file, symbols, statements, from, h, s, at)
 }
 
 // One of the h listed hypotheses from `from` on is such a $e.
@@ -107,13 +103,11 @@ fn one_lacks_float(file: &[u8], symbols: &[u32], statements: &[u32], from: usize
     requires { (from < 2 ^ 40) × (h < 65536) }
     ensures { result ≡ any (lacks_float file.now symbols.now statements.now (rows (u32 file.now) 4 h from)) (rows (u32 file.now) 4 h from) }
 {
-    let mut i = 0;
-    while i < h {
+    for i in 0..h {
         let s = u32_at(file, from + 4 * i);
         if lacks_float(file, symbols, statements, from, h, s) {
             return true;
         }
-        i += 1;
     }
     false
 }
@@ -124,10 +118,7 @@ fn is_second_float(file: &[u8], statements: &[u32], from: usize, h: usize, s: us
     ensures { result ≡ second_float file.now statements.now (rows (u32 file.now) 4 h from) s }
 {
     let at = entry(statements, s);
-    if kind_at(file, at) == 2 {
-        return has_float(file, statements, from, h, s, float_variable(file, at));
-    }
-    false
+    kind_at(file, at) == 2 && has_float(file, statements, from, h, s, float_variable(file, at))
 }
 
 // One of the h listed hypotheses from `from` on is such a $f.
@@ -135,13 +126,11 @@ fn has_second_float(file: &[u8], statements: &[u32], from: usize, h: usize) -> b
     requires { (from < 2 ^ 40) × (h < 65536) }
     ensures { result ≡ any (second_float file.now statements.now (rows (u32 file.now) 4 h from)) (rows (u32 file.now) 4 h from) }
 {
-    let mut i = 0;
-    while i < h {
+    for i in 0..h {
         let s = u32_at(file, from + 4 * i);
         if is_second_float(file, statements, from, h, s) {
             return true;
         }
-        i += 1;
     }
     false
 }
@@ -151,25 +140,13 @@ fn has_equal_pair(file: &[u8], from: usize, d: usize) -> bool
     requires { (from < 2 ^ 40) × (d < 65536) }
     ensures { result ≡ any equal_members (rows (pair_at file.now) 4 d from) }
 {
-    let mut i = 0;
-    while i < d {
+    for i in 0..d {
         let k = from + 4 * i;
         if u16_at(file, k) == u16_at(file, k + 2) {
             return true;
         }
-        i += 1;
     }
     false
-}
-
-// Row 6 on the answers to its questions.
-fn frame_row(given: bool, lacks: bool, second: bool, equal: bool) -> bool
-    ensures { result ≡ one_of (words.no given ∷ lacks ∷ second ∷ equal ∷ []) }
-{
-    either(
-        no(given),
-        either(lacks, either(second, either(equal, false))),
-    )
 }
 
 // Row 6 for a $a or $p.
@@ -178,21 +155,15 @@ fn bad_assertion(file: &[u8], symbols: &[u32], statements: &[u32], at: u32) -> b
 {
     let from = lists_from(file, at);
     let h = hyp_count(file, at);
-    let pairs = pairs_from(file, at);
-    let d = pair_count(file, at);
-    let given = are_given(file, symbols, statements, from, h, statements.len(), at);
-    let lacks = one_lacks_float(file, symbols, statements, from, h);
-    let second = has_second_float(file, statements, from, h);
-    let equal = has_equal_pair(file, pairs, d);
-    frame_row(given, lacks, second, equal)
+    !are_given(file, symbols, statements, from, h, statements.len(), at)
+        || one_lacks_float(file, symbols, statements, from, h)
+        || has_second_float(file, statements, from, h)
+        || has_equal_pair(file, pairs_from(file, at), pair_count(file, at))
 }
 
 // 6 BadFrame.
 pub fn bad_frame(file: &[u8], symbols: &[u32], statements: &[u32], at: u32) -> bool
     ensures { result ≡ bad_frame file.now symbols.now statements.now at }
 {
-    if is_assertion(kind_at(file, at)) {
-        return bad_assertion(file, symbols, statements, at);
-    }
-    false
+    is_assertion(kind_at(file, at)) && bad_assertion(file, symbols, statements, at)
 }

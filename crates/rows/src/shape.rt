@@ -1,97 +1,55 @@
 // Rows 1 and 2: the shape of a record, and the limits.
-ghost use Rattle.std.specs.Prelude.{◌≡◌, ◌∷◌, [], ◌<◌, length};
-ghost use Rattle.frames.specs.Logic as words;
-ghost use Rattle.frames.specs.Logic.{below, at_most, equal, one_of};
-ghost use Rattle.frames.specs.Layout.{u32, is_statement};
-ghost use Rattle.frames.specs.Table.{unknown_kind, bad_rest, no_symbols, bad_record, too_many};
+#![tactic(auto, unfolding(frames::specs::Table::unknown_kind, frames::specs::Table::bad_rest, frames::specs::Table::no_symbols, frames::specs::Table::off_layout, frames::specs::Table::bad_record, frames::specs::Table::cut_short, frames::specs::Table::too_many, frames::specs::Logic::one_of, frames::specs::Logic::either, frames::specs::Logic::both, frames::specs::Logic::no, frames::specs::Logic::equal, frames::specs::Logic::below, frames::specs::Logic::at_most))]
 
-use frames::logic::{both, either, no};
+ghost use Rattle.std.specs.Prelude.{◌≡◌};
+ghost use Rattle.frames.specs.Table.{unknown_kind, bad_rest, no_symbols, off_layout, bad_record, too_many};
+
 use frames::record::{
     class_at, hyp_count, is_statement, kind_at, length_at, listed_count, lists_symbols, next_at,
     pair_count, rest_from, rest_size,
 };
 
+// Kinds are 1 to 6.
 fn unknown_kind(kind: usize) -> bool
     ensures { result ≡ unknown_kind kind }
 {
-    either(kind == 0, 6 < kind)
+    kind == 0 || 6 < kind
 }
 
 // A name or label does not have 1 to 64 bytes.
 fn bad_rest(kind: usize, size: usize) -> bool
     ensures { result ≡ bad_rest kind size }
 {
-    both(no(kind == 6), either(size == 0, 64 < size))
+    kind != 6 && (size == 0 || 64 < size)
 }
 
 // n is 0 where it must be at least 1.
 fn no_symbols(kind: usize, n: usize) -> bool
     ensures { result ≡ no_symbols kind n }
 {
-    both(lists_symbols(kind), n == 0)
+    lists_symbols(kind) && n == 0
 }
 
-// Whether a body is not of its layout, on the record's numbers.
-fn layout_row(next: usize, from: usize, kind: usize, n: usize, size: usize) -> bool
-    ensures { result ≡ one_of (below next from ∷ no_symbols kind n ∷ bad_rest kind size ∷ []) }
+// The body is not of its layout: its fixed part and lists do not fit, n is 0, or its name or label has not 1 to 64 bytes.
+fn off_layout(file: &[u8], at: u32) -> bool
+    ensures { result ≡ off_layout file.now at }
 {
-    either(
-        next < from,
-        either(no_symbols(kind, n), either(bad_rest(kind, size), false)),
-    )
-}
-
-// Row 1 on the record's numbers.
-fn record_row(
-    len: usize,
-    next: usize,
-    length: usize,
-    kind: usize,
-    class: usize,
-    layout: bool,
-) -> bool
-    ensures { result ≡ one_of (below len next ∷ below length 2 ∷ unknown_kind kind ∷ words.both (equal kind 1) (below 1 class) ∷ layout ∷ []) }
-{
-    let body = either(both(kind == 1, 1 < class), either(layout, false));
-    either(
-        len < next,
-        either(length < 2, either(unknown_kind(kind), body)),
-    )
+    let kind = kind_at(file, at);
+    next_at(file, at) < rest_from(file, at)
+        || no_symbols(kind, listed_count(file, at))
+        || bad_rest(kind, rest_size(file, at))
 }
 
 // 1 BadRecord.
 pub fn bad_record(file: &[u8], at: u32) -> bool
     ensures { result ≡ bad_record file.now at }
 {
-    let next = next_at(file, at);
-    let length = length_at(file, at);
     let kind = kind_at(file, at);
-    let class = class_at(file, at);
-    let from = rest_from(file, at);
-    let size = rest_size(file, at);
-    let n = listed_count(file, at);
-    let layout = layout_row(next, from, kind, n, size);
-    record_row(file.len(), next, length, kind, class, layout)
-}
-
-// Row 2 on the record's numbers.
-fn limit_row(
-    kind: usize,
-    symbols: usize,
-    statements: usize,
-    h: usize,
-    d: usize,
-    n: usize,
-    size: usize,
-) -> bool
-    ensures { result ≡ one_of (words.both (equal kind 1) (at_most 4096 symbols) ∷ words.both (is_statement kind) (at_most 4096 statements) ∷ below 64 h ∷ below 512 d ∷ below 1024 n ∷ words.both (equal kind 6) (below 65536 size) ∷ []) }
-{
-    let text = either(both(kind == 6, 65536 < size), false);
-    let lists = either(64 < h, either(512 < d, either(1024 < n, text)));
-    either(
-        both(kind == 1, 4096 <= symbols),
-        either(both(is_statement(kind), 4096 <= statements), lists),
-    )
+    file.len() < next_at(file, at)
+        || length_at(file, at) < 2
+        || unknown_kind(kind)
+        || (kind == 1 && 1 < class_at(file, at))
+        || off_layout(file, at)
 }
 
 // 2 TooMany.
@@ -99,9 +57,10 @@ pub fn too_many(file: &[u8], symbols: &[u32], statements: &[u32], at: u32) -> bo
     ensures { result ≡ too_many file.now symbols.now statements.now at }
 {
     let kind = kind_at(file, at);
-    let h = hyp_count(file, at);
-    let d = pair_count(file, at);
-    let n = listed_count(file, at);
-    let size = rest_size(file, at);
-    limit_row(kind, symbols.len(), statements.len(), h, d, n, size)
+    (kind == 1 && 4096 <= symbols.len())
+        || (is_statement(kind) && 4096 <= statements.len())
+        || 64 < hyp_count(file, at)
+        || 512 < pair_count(file, at)
+        || 1024 < listed_count(file, at)
+        || (kind == 6 && 65536 < rest_size(file, at))
 }

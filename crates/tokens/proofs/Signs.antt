@@ -1,39 +1,41 @@
--- The first of a sign, as a loop finds it, and the two halves of a token at it.
-use Prim.Native.Nat.{ℕ, suc, ◌+◌, ◌≤◌}
+-- The first of a sign is where the library's `position` finds it.
+use Prim.Native.Nat.{ℕ, suc, ◌<◌, ◌≤◌}
 use mathlib.Core.Path.{◌≡◌, refl, sym, ◌∙◌, ap}
+use mathlib.Core.Bool.{Bool, true, false, cond}
 use mathlib.Core.List.{List}
+use native.Mathlib.Decide.{dec_lt}
 use native.Mathlib.Omega.{arith}
-use lib.ListN.{length, drop, drop_of_length-le}
-use Rattle.frames.proofs.Chains.{pick_first, pick_second, equal-yes, equal-no}
-use Rattle.frames.proofs.Loops.{Here}
+use borrow.Author.Tests.{lt-ltb, le-ltb}
+use lib.Dec.{eqb, ltb}
+use lib.ListN.{length}
+use Rattle.std.proofs.Common.{Option, Some, None}
+use Rattle.std.proofs.lemmas.List.Recursion.{is_position_or_len}
+use Rattle.std.proofs.lemmas.List.Sums.{prefix_len-le-length}
+use Rattle.std.specs.List.{position_or_len}
+use Rattle.std.specs.Option.{unwrap_or}
+use Rattle.frames.specs.Logic.{equal, pick}
 use Rattle.tokens.specs.Signs.{sign_at}
 
--- i bytes were looked at, and none is the sign
-pub record Unseen (sign : ℕ) (token : List ℕ) (i : ℕ) : Type 0 where
-  pub is : sign_at sign token ≡ i + sign_at sign (drop i token)
+pick-cond : {A : Type 0} (t : Bool) (a b : A) → pick t a b ≡ cond t a b
+unfolding pick
+pick-cond true a b = refl
+pick-cond false a b = refl
 
-pub unseen-none : (sign : ℕ) (token : List ℕ) → Unseen sign token 0
-unseen-none sign token = record { is = omega arith }
+sign-position : (sign : ℕ) (token : List ℕ) → sign_at sign token ≡ position_or_len (λ b. eqb b sign) token
+unfolding sign_at equal
+sign-position sign token = is_position_or_len (sign_at sign) (λ b. eqb b sign) refl (λ x xs. pick-cond (eqb x sign) 0 (suc (sign_at sign xs)) ∙ ap (cond (eqb x sign) 0) (omega arith)) token
 
-module _ {sign : ℕ} {token : List ℕ} {i b : ℕ} (u : Unseen sign token i) (h : Here token i b) where
-  pub unseen-more : (b ≡ sign → ⊥) → Unseen sign token (i + 1)
-  unfolding sign_at
-  unseen-more n =
-      let next : sign_at sign (drop i token) ≡ suc (sign_at sign (drop (i + 1) token)) =
-      ap (sign_at sign) h.is ∙ sym (pick_second _ (equal-no n) refl) in
-      let so = u.is in
-      record { is = omega arith }
+-- a place that was searched for, or the length where there is none
+or-length : {r : Option ℕ} (place size : ℕ) → r ≡ cond (ltb place size) (Some place) None → place ≤ size → unwrap_or r size ≡ place
+or-length {r} place size e h = go (dec_lt place size)
+  where
+    go : Dec (place < size) → unwrap_or r size ≡ place
+    go (yes l) = rw (e, lt-ltb place size l) refl
+    go (no n) = let le : size ≤ place = omega arith in rw (e, le-ltb place size le) (omega arith)
 
-  pub unseen-found : b ≡ sign → i ≡ sign_at sign token
-  unfolding sign_at
-  unseen-found e =
-      let next : sign_at sign (drop i token) ≡ 0 = ap (sign_at sign) h.is ∙ sym (pick_first _ (equal-yes e) refl) in
-      let so = u.is in
-      omega arith
-
-pub unseen-all : {sign : ℕ} {token : List ℕ} {i : ℕ} → Unseen sign token i → length token ≤ i → i ≤ length token → length token ≡ sign_at sign token
-unfolding sign_at
-unseen-all {sign} {token} {i} u l h =
-    let none_left : sign_at sign (drop i token) ≡ 0 = ap (sign_at sign) (drop_of_length-le token l) in
-    let so = u.is in
-    omega arith
+pub found-sign : {r : Option ℕ} (sign : ℕ) (token : List ℕ)
+    → r ≡ cond (ltb (position_or_len (λ b. eqb b sign) token) (length token)) (Some (position_or_len (λ b. eqb b sign) token)) None
+    → unwrap_or r (length token) ≡ sign_at sign token
+found-sign sign token e =
+    or-length (position_or_len (λ b. eqb b sign) token) (length token) e (prefix_len-le-length _ token)
+    ∙ sym (sign-position sign token)

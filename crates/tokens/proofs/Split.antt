@@ -5,7 +5,7 @@ use mathlib.Core.Path.{◌≡◌, refl, sym, ◌∙◌, ap}
 use mathlib.Core.Bool.{true}
 use mathlib.Core.Option.{none, some}
 use mathlib.Core.List.{List, [], ◌∷◌, ◌++◌}
-use native.Mathlib.Decide.{dec_lt}
+use native.Mathlib.Decide.{dec_lt, ℕ_discrete}
 use native.Mathlib.Nat.{sub-zero, zero-sub, suc-sub-suc}
 use native.Mathlib.Numerals.{add-one}
 use native.Mathlib.Omega.{arith}
@@ -13,9 +13,11 @@ use borrow.Author.Tests.{lt-ltb, le-ltb}
 use lib.Dec.{ltb}
 use lib.ListN.{length, take, drop, length-drop, take-append-drop}
 use lib.Seq.{length-take-le, take_all, take-nil, take-take, drop-drop, drop-append-le}
+use Rattle.frames.proofs.Chains.{pick_first, pick_second, equal-yes, equal-no, below-yes, below-no}
 use Rattle.machine.specs.Memory.{is_some}
 use Rattle.machine.specs.Reading.{cut, parts, mark_and_label, local_first, split_colon, split}
-use Rattle.tokens.proofs.Halves.{First, first-at, cut_at, cut-none, at_first, first-kept, first-cut, first-left}
+use Rattle.tokens.specs.Signs.{part_or, part_before}
+use Rattle.tokens.proofs.Halves.{First, first-at, cut_at, cut-none, at_first, first-within, first-kept, first-cut, first-left}
 
 -- what is left of the beginning of a list
 pub drop-take : (i m : ℕ) (l : List ℕ) → drop i (take m l) ≡ take (m - i) (drop i l)
@@ -180,3 +182,23 @@ module _ {t : List ℕ} where
       go : {m : ℕ} → First 58 t m → Dec (n < length t) → ltb n (length t) ≡ is_some (split t).mark
       go {m} c (yes hn) = lt-ltb _ _ hn ∙ sym (some-mark c hn (dec_lt m n))
       go c (no no-n) = le-ltb n (length t) (omega arith) ∙ sym (rw (mark-none c e (omega arith)) refl)
+
+-- the local label and the mark: what stands before the sign of each
+module _ {t : List ℕ} {m n : ℕ} (c : First 58 t m) (e : First 61 t n) where
+  pub local-before : part_or (split t).local ≡ part_before t m n
+  unfolding part_before part_or
+  local-before = go (ℕ_discrete m (length t)) (dec_lt n m)
+    where
+      go : Dec (m ≡ length t) → Dec (n < m) → part_or (split t).local ≡ part_before t m n
+      go (yes l) d = pick_first _ (equal-yes l) (ap part_or (local-none c e (omega arith)))
+      go (no k) (yes l) = pick_second _ (equal-no k) (pick_first _ (below-yes l) (ap part_or (local_second c e l (omega (arith, first-within c)))))
+      go (no k) (no l) = pick_second _ (equal-no k) (pick_second _ (below-no (omega arith)) (ap part_or (local-first c e (omega arith) (omega (arith, first-within c)))))
+
+  pub mark-before : part_or (split t).mark ≡ part_before t n m
+  unfolding part_before part_or
+  mark-before = go (ℕ_discrete n (length t)) (dec_lt m n)
+    where
+      go : Dec (n ≡ length t) → Dec (m < n) → part_or (split t).mark ≡ part_before t n m
+      go (yes l) d = pick_first _ (equal-yes l) (ap part_or (mark-none c e (omega arith)))
+      go (no k) (yes l) = pick_second _ (equal-no k) (pick_first _ (below-yes l) (ap part_or (mark-second c e l (omega (arith, first-within e)))))
+      go (no k) (no l) = pick_second _ (equal-no k) (pick_second _ (below-no (omega arith)) (ap part_or (mark-first c e (omega arith) (omega (arith, first-within e)))))

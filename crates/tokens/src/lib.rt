@@ -10,40 +10,34 @@ ghost use Rattle.frames.specs.Logic.{any};
 ghost use Rattle.machine.specs.Reading as reading;
 ghost use Rattle.tokens.specs.Signs.{sign_at};
 
-use frames::logic::{either, no};
 use frames::text::name_byte;
 use machine::Letter;
 
 // Whether a byte divides tokens: space, tab, CR, LF, FF.
+#[tactic(auto, unfolding(machine::specs::Reading::divider, frames::specs::Logic::one_of, frames::specs::Logic::either, frames::specs::Logic::equal))]
 pub fn divider(b: u8) -> bool
     ensures { result ≡ reading.divider b }
 {
-    let feeds = either(b == 13, either(b == 10, either(b == 12, false)));
-    either(b == 32, either(b == 9, feeds))
+    b.is_ascii_whitespace()
 }
 
 // Whether a byte is neither a name byte nor a divider.
+#[tactic(auto, unfolding(machine::specs::Reading::bad_byte, frames::specs::Logic::either, frames::specs::Logic::no))]
 pub fn bad_byte(b: u8) -> bool
     ensures { result ≡ reading.bad_byte b }
 {
-    no(either(name_byte(b), divider(b)))
+    !(name_byte(b) || divider(b))
 }
 
 // Whether some byte of the text is bad.
 pub fn any_bad(text: &[u8]) -> bool
     ensures { result ≡ any reading.bad_byte text.now }
 {
-    let mut i = 0;
-    while i < text.len() {
-        if bad_byte(text[i]) {
-            return true;
-        }
-        i += 1;
-    }
-    false
+    text.iter().any(|b| bad_byte(*b))
 }
 
 // The class of a letter.
+#[tactic(auto, unfolding(machine::specs::Reading::letter, frames::specs::Logic::pick, frames::specs::Logic::both, frames::specs::Logic::at_most, frames::specs::Logic::equal))]
 pub fn letter(b: u8) -> Letter
     ensures { result ≡ reading.letter b }
 {
@@ -60,12 +54,5 @@ pub fn letter(b: u8) -> Letter
 pub fn find(token: &[u8], sign: u8) -> usize
     ensures { result ≡ sign_at sign token.now }
 {
-    let mut i = 0;
-    while i < token.len() {
-        if token[i] == sign {
-            return i;
-        }
-        i += 1;
-    }
-    token.len()
+    token.iter().position(|b| *b == sign).unwrap_or(token.len())
 }

@@ -1,12 +1,25 @@
 // A port of parts of src/verify.rs of metamath-rs 0.3.9 (the split of a token in prepare_step), changed (see NOTICE).
 // The three parts of a normal token, each a part of the lent token: its local label, its mark and its label. The caller has the positions of the
 // first `:` and of the first `=` from `find`.
-ghost use Rattle.std.specs.Prelude.{◌≡◌, ◌<◌, ◌≤◌};
+ghost use Rattle.std.specs.Prelude.{◌≡◌, ◌<◌, ◌≤◌, length};
 ghost use Rattle.machine.specs.Memory.{is_some};
 ghost use Rattle.machine.specs.Reading.{split};
-ghost use Rattle.tokens.specs.Signs.{sign_at, part_or};
+ghost use Rattle.tokens.specs.Signs.{sign_at, part_or, part_before};
 
-use frames::read::part;
+// What stands before the sign at `sign`, after the other sign where that stands first; nothing where there is no such sign.
+#[tactic(auto, unfolding(crate::specs::Signs::part_before, frames::specs::Logic::pick, frames::specs::Logic::equal, frames::specs::Logic::below))]
+fn part_before(token: &[u8], sign: usize, other: usize) -> &[u8]
+    requires { sign ≤ length token.now }
+    ensures { result.now ≡ part_before token.now sign other }
+{
+    if sign == token.len() {
+        &token[..0]
+    } else if other < sign {
+        &token[other + 1..sign]
+    } else {
+        &token[..sign]
+    }
+}
 
 // Whether the token gives a local label: it has a `:`.
 pub fn has_local(token: &[u8], colon: usize) -> bool
@@ -21,17 +34,10 @@ pub fn local_label(token: &[u8], colon: usize, equals: usize) -> &[u8]
     requires { (colon ≡ sign_at 58 token.now) × (equals ≡ sign_at 61 token.now) }
     ensures { result.now ≡ part_or (split token.now).local }
 {
-    if colon == token.len() {
-        return part(token, 0, 0);
-    }
-    if equals < colon {
-        let first = equals + 1;
-        return part(token, first, colon - first);
-    }
-    part(token, 0, colon)
+    part_before(token, colon, equals)
 }
 
-// Whether the token gives a mark: it has a `=`.
+// Whether the token gives a mark: it has a `=`. (One comparison as in `has_local`, but each contract speaks of another part of `split`.)
 pub fn has_mark(token: &[u8], equals: usize) -> bool
     requires { equals ≡ sign_at 61 token.now }
     ensures { result ≡ is_some (split token.now).mark }
@@ -44,14 +50,7 @@ pub fn mark(token: &[u8], colon: usize, equals: usize) -> &[u8]
     requires { (colon ≡ sign_at 58 token.now) × (equals ≡ sign_at 61 token.now) }
     ensures { result.now ≡ part_or (split token.now).mark }
 {
-    if equals == token.len() {
-        return part(token, 0, 0);
-    }
-    if colon < equals {
-        let first = colon + 1;
-        return part(token, first, equals - first);
-    }
-    part(token, 0, equals)
+    part_before(token, equals, colon)
 }
 
 // The sign that the label follows: `=`, or `:` where there is no `=`.
@@ -68,8 +67,8 @@ pub fn label(token: &[u8], colon: usize, equals: usize) -> &[u8]
 {
     let sign = label_sign(token.len(), colon, equals);
     if sign < token.len() {
-        let after = sign + 1;
-        return &token[after..];
+        &token[sign + 1..]
+    } else {
+        token
     }
-    &token[0..]
 }

@@ -16,13 +16,12 @@ pub fn map_var(numbers: &mut [u32], count: u32, v: SymbolNo) -> u32
     ensures { Maps numbers.old count v.0 numbers.new result }
 {
     let s = v.0;
-    if s < numbers.len() {
-        if numbers[s] == 0 {
-            numbers[s] = count + 1;
-            return count + 1;
-        }
+    if s < numbers.len() && numbers[s] == 0 {
+        numbers[s] = count + 1;
+        count + 1
+    } else {
+        count
     }
-    count
 }
 
 // Numbers the members of the pairs of the statement at `at`, as they are met.
@@ -30,14 +29,11 @@ pub fn map_pairs(file: &[u8], at: u32, numbers: &mut [u32], count: u32) -> u32
     requires { count < 8192 }
     ensures { MapsAll numbers.old count (members (statement_at file.now at).pairs) numbers.new result }
 {
-    let n = fields::pairs(file, at);
     let mut c = count;
-    let mut i = 0;
-    while i < n {
+    for i in 0..fields::pairs(file, at) {
         let pair = fields::pair_of(file, at, i);
         let left = map_var(numbers, c, pair.left);
         c = map_var(numbers, left, pair.right);
-        i += 1;
     }
     c
 }
@@ -55,10 +51,10 @@ fn map_float(
 {
     let at = fields::statement_offset(statements, h);
     if fields::kind(file, at) == 2 {
-        let v = fields::variable(file, at);
-        return map_var(numbers, count, v);
+        map_var(numbers, count, fields::variable(file, at))
+    } else {
+        count
     }
-    count
 }
 
 // Numbers the mandatory variables of the statement at `at`: those of its listed $f, in their order.
@@ -66,13 +62,10 @@ pub fn map_floats(file: &[u8], statements: &[u32], at: u32, numbers: &mut [u32],
     requires { count < 8192 }
     ensures { MapsAll numbers.old count (floats_at file.now statements.now (statement_at file.now at).hyps) numbers.new result }
 {
-    let n = fields::hypotheses(file, at);
     let mut c = count;
-    let mut j = 0;
-    while j < n {
+    for j in 0..fields::hypotheses(file, at) {
         let h = fields::hypothesis(file, at, j);
         c = map_float(file, statements, numbers, c, h);
-        j += 1;
     }
     c
 }

@@ -1,11 +1,6 @@
 -- `label_index::put_all` meets its contract. The invariant: the table is the index of the statements so far (`LabelledTo`).
-use Prim.Native.Nat.{◌≤◌, ◌-◌}
-use lib.ListN.{length}
 use Rattle.label_index.specs.Labelled.{LabelledTo}
 use Rattle.label_index.proofs.put_all.Given as goal
 
 abbrev pub invariant-loop-i : goal.invariant-loop-i
-invariant-loop-i l = (l.i ≤ length l.statements) × LabelledTo l.file l.statements l.labels l.i
-
-abbrev pub decreases-loop-i : goal.decreases-loop-i
-decreases-loop-i l = length l.statements - l.i
+invariant-loop-i l = LabelledTo l.file l.statements l.labels l.i

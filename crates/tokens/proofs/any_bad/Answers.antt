@@ -1,19 +1,13 @@
--- `tokens::any_bad` meets its contract: the loop stops at the first bad byte (`AnySoFar`).
-use Prim.Native.Nat.{◌-◌}
-use Rattle.frames.proofs.Loops.{any-done, any-more, any_none, any-stop, here-list}
+-- `tokens::any_bad` meets its contract: the chain asks each byte until one is bad (`list_any-any`).
+use mathlib.Core.Path.{◌∙◌}
+use Rattle.std.proofs.Common.{rules, tests}
+use Rattle.std.proofs.lemmas.Iterator.{YieldsList-from_slice}
+use Rattle.std.proofs.lemmas.Iterator.Search.{any_from_yields_List}
+use Rattle.frames.proofs.Words.{list_any-any}
 use Rattle.machine.specs.Reading.{bad_byte}
-use borrow.Author.Rules.{rules}
-use native.Mathlib.Omega.{arith}
 use Rattle.tokens.proofs.any_bad.Goals as goal
 
-pub loop-i-init : goal.loop-i-init
-loop-i-init c = (search rules, any_none bad_byte c.args.text.now)
-
-pub returns-then-bad_byte : goal.returns-then-bad_byte
-returns-then-bad_byte c = any-stop c.loop-i.invariant.1 (here-list c.args.text.now c.loop-i.i 0 (omega arith)) (cc)
-
-pub loop-i-preserved : goal.loop-i-preserved
-loop-i-preserved c = (omega arith, any-more c.loop-i.invariant.1 (here-list c.args.text.now c.loop-i.i 0 (omega arith)) (cc))
-
 pub returns : goal.returns
-returns c = any-done c.loop-i.invariant.1 (omega arith)
+returns c =
+    any_from_yields_List bad_byte _ _ c.any.result c.any.ensures.ran (YieldsList-from_slice c.args.text.now cc) (λ x b q k. search (rules, tests))
+    ∙ list_any-any bad_byte c.args.text.now

@@ -1,19 +1,15 @@
--- `tokens::find` meets its contract: none of the bytes looked at is the sign (`Unseen`).
-use Prim.Native.Nat.{◌-◌}
-use Rattle.frames.proofs.Loops.{here-list}
-use Rattle.tokens.proofs.Signs.{unseen-all, unseen-found, unseen-more, unseen-none}
-use borrow.Author.Rules.{rules}
-use native.Mathlib.Omega.{arith}
+-- `tokens::find` meets its contract: the chain finds the first of the sign (`found-sign`).
+use mathlib.Core.Path.{◌∙◌}
+use lib.Dec.{eqb}
+use Rattle.std.proofs.Common.{rules, tests}
+use Rattle.std.proofs.lemmas.Iterator.{YieldsList-from_slice}
+use Rattle.std.proofs.lemmas.Iterator.Search.{position_from_yields_List}
+use Rattle.tokens.proofs.Signs.{found-sign}
 use Rattle.tokens.proofs.find.Goals as goal
 
-pub loop-i-init : goal.loop-i-init
-loop-i-init c = (search rules, unseen-none c.args.sign c.args.token.now)
-
-pub returns-then-token-i : goal.returns-then-token-i
-returns-then-token-i c = unseen-found c.loop-i.invariant.1 (here-list c.args.token.now c.loop-i.i 0 (omega arith)) c.if-token-i.true
-
-pub loop-i-preserved : goal.loop-i-preserved
-loop-i-preserved c = (omega arith, unseen-more c.loop-i.invariant.1 (here-list c.args.token.now c.loop-i.i 0 (omega arith)) c.if-token-i.false)
-
 pub returns : goal.returns
-returns c = unseen-all c.loop-i.invariant.1 (omega arith) (omega arith)
+returns c =
+    let sign = c.args.sign in
+    c.unwrap_or.ensures
+    ∙ found-sign sign c.args.token.now
+    (position_from_yields_List (λ b. eqb b sign) _ _ c.position.result c.position.ensures.ran (YieldsList-from_slice c.args.token.now cc) (λ x b q k. search (rules, tests)))

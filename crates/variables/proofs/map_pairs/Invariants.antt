@@ -1,5 +1,4 @@
 -- `variables::map_pairs` meets its contract: after i pairs the members of those before the i-th are numbered (`MapsAll`).
-use Prim.Native.Nat.{◌-◌, ◌≤◌}
 use Rattle.frames.specs.Database.{statement_at}
 use Rattle.machine.specs.Run.{members}
 use Rattle.variables.specs.Numbering.{MapsAll}
@@ -7,7 +6,4 @@ use lib.ListN.{take}
 use Rattle.variables.proofs.map_pairs.Given as goal
 
 abbrev pub invariant-loop-i : goal.invariant-loop-i
-invariant-loop-i l = (l.i ≤ l.n) × MapsAll l.initial.numbers l.count (members (take l.i (statement_at l.file l.at).pairs)) l.numbers l.c
-
-abbrev pub decreases-loop-i : goal.decreases-loop-i
-decreases-loop-i l = l.n - l.i
+invariant-loop-i l = MapsAll l.initial.numbers l.count (members (take l.i (statement_at l.file l.at).pairs)) l.numbers l.c

@@ -8,6 +8,6 @@ pub returns-then-kind_at-eq2 : goal.returns-then-kind_at-eq2
 unfolding statement_at
 returns-then-kind_at-eq2 c = float-first _ _ (sym c.kind_at.ensures.0 ∙ c.if-kind_at-eq2.true) c.u16_at.ensures.0
 
-pub returns : goal.returns
+pub returns-else-kind_at-eq2 : goal.returns-else-kind_at-eq2
 unfolding statement_at
-returns c = c.symbol.ensures
+returns-else-kind_at-eq2 c = c.symbol.ensures

@@ -8,6 +8,6 @@ pub returns-then-i-hyp_count : goal.returns-then-i-hyp_count
 unfolding hyps_at
 returns-then-i-hyp_count c = let a = c.args in cc (here-get_or (here-rows (u32 a.file.now) 4 (hyp_count a.file.now a.at) (lists_from a.file.now a.at) a.i (omega arith)) 0)
 
-pub returns : goal.returns
+pub returns-else-i-hyp_count : goal.returns-else-i-hyp_count
 unfolding hyps_at
-returns c = let a = c.args in rows-past (u32 a.file.now) 4 (hyp_count a.file.now a.at) (lists_from a.file.now a.at) a.i 0 (omega arith)
+returns-else-i-hyp_count c = let a = c.args in rows-past (u32 a.file.now) 4 (hyp_count a.file.now a.at) (lists_from a.file.now a.at) a.i 0 (omega arith)

@@ -8,6 +8,6 @@ pub returns-then-i-symbol_count : goal.returns-then-i-symbol_count
 unfolding symbols_at
 returns-then-i-symbol_count c = let a = c.args in cc (here-get_or (here-rows (u16 a.file.now) 2 (symbol_count a.file.now a.at) (symbols_from a.file.now a.at) a.i (omega arith)) 0)
 
-pub returns : goal.returns
+pub returns-else-i-symbol_count : goal.returns-else-i-symbol_count
 unfolding symbols_at
-returns c = let a = c.args in rows-past (u16 a.file.now) 2 (symbol_count a.file.now a.at) (symbols_from a.file.now a.at) a.i 0 (omega arith)
+returns-else-i-symbol_count c = let a = c.args in rows-past (u16 a.file.now) 2 (symbol_count a.file.now a.at) (symbols_from a.file.now a.at) a.i 0 (omega arith)

@@ -1,5 +1,4 @@
 -- `rows::framing::has_equal_pair` meets its contract: the loop stops at the first member that passes. The invariant: the test of what is left of the list is the test of the whole (`AnySoFar`).
-use Prim.Native.Nat.{◌-◌, ◌≤◌}
 use Rattle.frames.proofs.Loops.{AnySoFar}
 use Rattle.frames.specs.Layout.{pair_at}
 use Rattle.frames.specs.Logic.{rows}
@@ -7,7 +6,4 @@ use Rattle.frames.specs.Table.{equal_members}
 use Rattle.rows.proofs.framing.has_equal_pair.Given as goal
 
 abbrev pub invariant-loop-i : goal.invariant-loop-i
-invariant-loop-i l = (l.i ≤ l.d) × AnySoFar (equal_members) (rows (pair_at l.file) 4 l.d l.from) l.i
-
-abbrev pub decreases-loop-i : goal.decreases-loop-i
-decreases-loop-i l = l.d - l.i
+invariant-loop-i l = AnySoFar (equal_members) (rows (pair_at l.file) 4 l.d l.from) l.i

@@ -1,34 +1,20 @@
 -- `rows::framing::has_second_float` meets its contract: the loop stops at the first member that passes. The invariant: the test of what is left of the list is the test of the whole (`AnySoFar`).
 use Rattle.frames.proofs.Chains.{told}
-use Prim.Native.Nat.{◌-◌}
 use Rattle.frames.proofs.Loops.{any-done, any-more, any_none, any-stop, here-rows, length-rows}
 use Rattle.frames.specs.Layout.{u32}
 use Rattle.frames.specs.Logic.{rows}
 use Rattle.frames.specs.Table.{second_float}
-use borrow.Author.Rules.{rules}
 use native.Mathlib.Omega.{arith}
 use Rattle.rows.proofs.framing.has_second_float.Goals as goal
 
 pub loop-i-init : goal.loop-i-init
-loop-i-init c = let a = c.args in (search rules, any_none (second_float a.file.now a.statements.now (rows (u32 a.file.now) 4 a.h a.from)) (rows (u32 a.file.now) 4 a.h a.from))
-
-pub u32_at-s-requires : goal.u32_at-s-requires
-u32_at-s-requires c = omega arith
-
-pub is_second_float-requires : goal.is_second_float-requires
-is_second_float-requires c = omega arith
+loop-i-init c = let a = c.args in any_none (second_float a.file.now a.statements.now (rows (u32 a.file.now) 4 a.h a.from)) (rows (u32 a.file.now) 4 a.h a.from)
 
 pub returns-then-is_second_float : goal.returns-then-is_second_float
-returns-then-is_second_float c = let a = c.args in any-stop c.loop-i.invariant.1 (here-rows (u32 a.file.now) 4 a.h a.from c.loop-i.i (omega arith)) (told (second_float a.file.now a.statements.now (rows (u32 a.file.now) 4 a.h a.from)) c.is_second_float.ensures c.u32_at-s.ensures.0 c.if-is_second_float.true)
-
-pub overflow_add-i : goal.overflow_add-i
-overflow_add-i c = omega arith
-
-pub loop-i-smaller : goal.loop-i-smaller
-loop-i-smaller c = omega arith
+returns-then-is_second_float c = let a = c.args in any-stop c.loop-i.invariant (here-rows (u32 a.file.now) 4 a.h a.from c.loop-i.i (omega arith)) (told (second_float a.file.now a.statements.now (rows (u32 a.file.now) 4 a.h a.from)) c.is_second_float.ensures c.u32_at-s.ensures.0 c.if-is_second_float.true)
 
 pub loop-i-preserved : goal.loop-i-preserved
-loop-i-preserved c = let a = c.args in (omega arith, any-more c.loop-i.invariant.1 (here-rows (u32 a.file.now) 4 a.h a.from c.loop-i.i (omega arith)) (told (second_float a.file.now a.statements.now (rows (u32 a.file.now) 4 a.h a.from)) c.is_second_float.ensures c.u32_at-s.ensures.0 c.if-is_second_float.false))
+loop-i-preserved c = let a = c.args in any-more c.loop-i.invariant (here-rows (u32 a.file.now) 4 a.h a.from c.loop-i.i (omega arith)) (told (second_float a.file.now a.statements.now (rows (u32 a.file.now) 4 a.h a.from)) c.is_second_float.ensures c.u32_at-s.ensures.0 c.if-is_second_float.false)
 
 pub returns : goal.returns
-returns c = let a = c.args in any-done c.loop-i.invariant.1 (omega (arith, length-rows (u32 a.file.now) 4 a.h a.from))
+returns c = let a = c.args in any-done c.loop-i.invariant (omega (arith, length-rows (u32 a.file.now) 4 a.h a.from))

@@ -1,5 +1,4 @@
 -- `rows::framing::has_second_float` meets its contract: the loop stops at the first member that passes. The invariant: the test of what is left of the list is the test of the whole (`AnySoFar`).
-use Prim.Native.Nat.{◌-◌, ◌≤◌}
 use Rattle.frames.proofs.Loops.{AnySoFar}
 use Rattle.frames.specs.Layout.{u32}
 use Rattle.frames.specs.Logic.{rows}
@@ -7,7 +6,4 @@ use Rattle.frames.specs.Table.{second_float}
 use Rattle.rows.proofs.framing.has_second_float.Given as goal
 
 abbrev pub invariant-loop-i : goal.invariant-loop-i
-invariant-loop-i l = (l.i ≤ l.h) × AnySoFar (second_float l.file l.statements (rows (u32 l.file) 4 l.h l.from)) (rows (u32 l.file) 4 l.h l.from) l.i
-
-abbrev pub decreases-loop-i : goal.decreases-loop-i
-decreases-loop-i l = l.h - l.i
+invariant-loop-i l = AnySoFar (second_float l.file l.statements (rows (u32 l.file) 4 l.h l.from)) (rows (u32 l.file) 4 l.h l.from) l.i

@@ -1,5 +1,4 @@
 -- `rows::numbers::all_variables` meets its contract: the loop stops at the first member that fails. The invariant: the test of what is left of the list is the test of the whole (`AllSoFar`).
-use Prim.Native.Nat.{◌-◌, ◌≤◌}
 use Rattle.frames.proofs.Loops.{AllSoFar}
 use Rattle.frames.specs.Layout.{pair_at}
 use Rattle.frames.specs.Logic.{rows}
@@ -7,7 +6,4 @@ use Rattle.frames.specs.Table.{variables}
 use Rattle.rows.proofs.numbers.all_variables.Given as goal
 
 abbrev pub invariant-loop-i : goal.invariant-loop-i
-invariant-loop-i l = (l.i ≤ l.d) × AllSoFar (variables l.file l.symbols) (rows (pair_at l.file) 4 l.d l.from) l.i
-
-abbrev pub decreases-loop-i : goal.decreases-loop-i
-decreases-loop-i l = l.d - l.i
+invariant-loop-i l = AllSoFar (variables l.file l.symbols) (rows (pair_at l.file) 4 l.d l.from) l.i

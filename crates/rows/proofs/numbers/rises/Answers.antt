@@ -1,5 +1,4 @@
 -- `rows::numbers::rises` meets its contract: the loop stops at the first number that does not rise. The invariant: what is left rises from `low` exactly when the whole rises (`RisingSoFar`).
-use Prim.Native.Nat.{◌-◌}
 use Rattle.frames.proofs.Chains.{at_most-no, at_most-yes}
 use Rattle.frames.proofs.Loops.{here-rows, length-rows, rising-done, rising-more, rising_none, rising-stop}
 use Rattle.frames.specs.Layout.{u32}
@@ -9,25 +8,13 @@ use native.Mathlib.Omega.{arith}
 use Rattle.rows.proofs.numbers.rises.Goals as goal
 
 pub loop-i-init : goal.loop-i-init
-loop-i-init c = let a = c.args in (search rules, (search rules, rising_none (rows (u32 a.file.now) 4 a.h a.from)))
-
-pub u32_at-s-requires : goal.u32_at-s-requires
-u32_at-s-requires c = omega arith
+loop-i-init c = let a = c.args in (search rules, rising_none (rows (u32 a.file.now) 4 a.h a.from))
 
 pub returns-then-s-low : goal.returns-then-s-low
-returns-then-s-low c = let a = c.args in rising-stop c.loop-i.invariant.1.1 (here-rows (u32 a.file.now) 4 a.h a.from c.loop-i.i (omega arith)) (at_most-no (omega arith))
-
-pub overflow_add-low : goal.overflow_add-low
-overflow_add-low c = omega arith
-
-pub overflow_add-i : goal.overflow_add-i
-overflow_add-i c = omega arith
-
-pub loop-i-smaller : goal.loop-i-smaller
-loop-i-smaller c = omega arith
+returns-then-s-low c = let a = c.args in rising-stop c.loop-i.invariant.1 (here-rows (u32 a.file.now) 4 a.h a.from c.loop-i.i (omega arith)) (at_most-no (omega arith))
 
 pub loop-i-preserved : goal.loop-i-preserved
-loop-i-preserved c = let a = c.args in (omega arith, (omega arith, rw c.u32_at-s.ensures.0 (rising-more c.loop-i.invariant.1.1 (here-rows (u32 a.file.now) 4 a.h a.from c.loop-i.i (omega arith)) (at_most-yes (omega arith)))))
+loop-i-preserved c = let a = c.args in (omega arith, rw c.u32_at-s.ensures.0 (rising-more c.loop-i.invariant.1 (here-rows (u32 a.file.now) 4 a.h a.from c.loop-i.i (omega arith)) (at_most-yes (omega arith))))
 
 pub returns : goal.returns
-returns c = let a = c.args in rising-done c.loop-i.invariant.1.1 (omega (arith, length-rows (u32 a.file.now) 4 a.h a.from))
+returns c = let a = c.args in rising-done c.loop-i.invariant.1 (omega (arith, length-rows (u32 a.file.now) 4 a.h a.from))

@@ -9,5 +9,5 @@ use Rattle.tokens.proofs.parts.label.Goals as goal
 pub returns-then-sign-token : goal.returns-then-sign-token
 returns-then-sign-token c = to_the_end c.args.token.now (c.label_sign-sign.result + 1) ∙ sym (label_after (first-at _ c.requires.0) (first-at _ c.requires.1) c.label_sign-sign.ensures.0 c.label_sign-sign.ensures.1 (omega arith))
 
-pub returns : goal.returns
-returns c = to_the_end c.args.token.now 0 ∙ sym (label-whole (first-at _ c.requires.0) (first-at _ c.requires.1) c.label_sign-sign.ensures.0 c.label_sign-sign.ensures.1 (omega arith))
+pub returns-else-sign-token : goal.returns-else-sign-token
+returns-else-sign-token c = sym (label-whole (first-at _ c.requires.0) (first-at _ c.requires.1) c.label_sign-sign.ensures.0 c.label_sign-sign.ensures.1 (omega arith))

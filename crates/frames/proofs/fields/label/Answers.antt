@@ -1,7 +1,0 @@
--- `frames::fields::label` meets its contract: the reader below it has the field of the decoded record.
-use Rattle.frames.specs.Database.{statement_at}
-use Rattle.frames.proofs.fields.label.Goals as goal
-
-pub returns : goal.returns
-unfolding statement_at
-returns c = c.any_rest_at.ensures

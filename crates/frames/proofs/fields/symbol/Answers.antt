@@ -1,7 +1,0 @@
--- `frames::fields::symbol` meets its contract: the reader below it has the field of the decoded record.
-use Rattle.frames.specs.Database.{statement_at}
-use Rattle.frames.proofs.fields.symbol.Goals as goal
-
-pub returns : goal.returns
-unfolding statement_at
-returns c = c.symbol.ensures

@@ -1,8 +1,0 @@
--- `frames::record::rest-from` meets its contract: the number is the definition's by what the readers below it ensure, and the bounds follow from theirs.
-use native.Mathlib.Omega.{arith}
-use Rattle.frames.specs.Layout.{rest_from}
-use Rattle.frames.proofs.record.rest_from.Goals as goal
-
-pub returns : goal.returns
-unfolding rest_from
-returns c = omega arith
