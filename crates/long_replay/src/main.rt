@@ -19,6 +19,7 @@ const TREE: usize = 131072;
 const OUTPUT: usize = 65536;
 
 // One call of the list: a run, and how much is lent for its long form.
+#[derive(Clone, Copy)]
 struct LongForm {
     run: Run,
     tree: usize,
