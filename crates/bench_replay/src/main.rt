@@ -56,9 +56,9 @@ fn answer(
 fn main() {
     let mut list: [u8; 1048576] = filled(0);
     let n = io::read_full(STDIN_FILENO, &mut list);
-    let mut pool: [u8; POOL] = filled(0);
-    let mut stack: [u64; STACK] = filled(0);
-    let mut places: [u64; PLACES] = filled(0);
+    let mut pool = [0; POOL];
+    let mut stack = [0; STACK];
+    let mut places = [0; PLACES];
     each_call(&list[..n], |file, Verify(run)| {
         answer(file, run, &mut pool, &mut stack, &mut places)
     });

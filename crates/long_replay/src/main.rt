@@ -106,11 +106,11 @@ fn answer(
 fn main() {
     let mut list: [u8; 1048576] = filled(0);
     let n = io::read_full(STDIN_FILENO, &mut list);
-    let mut pool: [u8; POOL] = filled(0);
-    let mut stack: [u64; STACK] = filled(0);
-    let mut places: [u64; PLACES] = filled(0);
-    let mut tree: [u64; TREE] = filled(0);
-    let mut output: [u8; OUTPUT] = filled(0);
+    let mut pool = [0; POOL];
+    let mut stack = [0; STACK];
+    let mut places = [0; PLACES];
+    let mut tree = [0; TREE];
+    let mut output = [0; OUTPUT];
     each_call(&list[..n], |file, call| {
         answer(
             file, call, &mut pool, &mut stack, &mut places, &mut tree, &mut output,
