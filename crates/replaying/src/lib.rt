@@ -1,4 +1,5 @@
-// What the programs share that replay a list of the tests. A list is read from its front, and what is read is taken off it; past its end there are zeros.
+// What the programs of the tests share: standard output as a writer, and how a list of calls or files is replayed. A list is read from its front, and what is read is
+// taken off it; past its end there are zeros.
 #![tactic(auto)]
 
 ghost use Rattle.std.specs.Prelude.{◌≡◌, ℕ, ◌<◌, ◌≤◌, length, slice_index, take, drop};
