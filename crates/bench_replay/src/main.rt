@@ -3,10 +3,9 @@
 // tests/bench_replay/make.py, which writes it and the answers that are expected.
 #![tactic(auto)]
 
-ghost use Rattle.std.specs.Prelude.{◌≤◌, length};
-
 use replaying::{
-    Call, Out, PLACES, POOL, Run, SOIL_BYTE, SOIL_WORD, STACK, STDIN_FILENO, each_call, filled, number,
+    Call, Out, PLACES, POOL, Run, SOIL_BYTE, SOIL_WORD, STACK, STDIN_FILENO, each_call, filled,
+    number,
 };
 use std::io::Write;
 

@@ -3,7 +3,7 @@
 // the output holds something else after the text, `changed`. The list's form is told in tests/long_replay/make.py, which writes it and the answers that are expected.
 #![tactic(auto)]
 
-ghost use Rattle.std.specs.Prelude.{◌≤◌, length};
+ghost use Rattle.std.specs.Prelude.{◌≤◌};
 
 use long::long_form;
 use replaying::{
@@ -113,7 +113,13 @@ fn main() {
     let mut output = [0; OUTPUT];
     each_call(&list[..n], |file, call| {
         answer(
-            file, call, &mut pool, &mut stack, &mut places, &mut tree, &mut output,
+            file,
+            call,
+            &mut pool,
+            &mut stack,
+            &mut places,
+            &mut tree,
+            &mut output,
         )
     });
 }

@@ -171,16 +171,8 @@ fn others(
 ) -> usize {
     let is_other = |q: &usize| {
         let at = entry(good.statements, *q);
-        packed_calls::packed_is_substituted(
-            good.file,
-            good.symbols,
-            at,
-            froms,
-            tos,
-            pool,
-            from,
-            to,
-        ) == 1
+        packed_calls::packed_is_substituted(good.file, good.symbols, at, froms, tos, pool, from, to)
+            == 1
     };
     (0..good.count).filter(is_other).count()
 }

@@ -13,7 +13,8 @@ pub const STDIN_FILENO: i32 = 0;
 
 pub const STDOUT_FILENO: i32 = 1;
 
-// Standard output as a writer. That of the runtime tells why a write failed, for which one more function of C would be assumed.
+// Standard output as a writer. The runtime's own tells why a write failed, for which one more function of C would be assumed (`rattle_errno`). The programs go on after a
+// write that fails: what they wrote is compared.
 #[derive(Drop)]
 pub struct Out;
 
@@ -31,7 +32,7 @@ impl Write for Out {
     }
 }
 
-// N times a value. The caller has no literal for it, where the check would compute one of a million and run out of stack.
+// An array of one value. A caller needs it for a list's million bytes: a literal of that length in `main` is more than the check can compute.
 pub fn filled<T: Copy, const N: usize>(value: T) -> [T; N]
     ensures len { length result ≡ N }
     ensures values { AllWithin (λ x. x ≡ value) result 0 N }
@@ -127,7 +128,7 @@ impl Call for Run {
     }
 }
 
-// What all that is lent is set to before a run.
+// What each byte and each word that is lent is set to before a run: no byte of it is zero.
 pub const SOIL_BYTE: u8 = 165;
 
 pub const SOIL_WORD: u64 = 12297829382473034411;
