@@ -35,7 +35,7 @@ fn ask(file: &[u8], statement: usize, pool: &mut [u8], stack: &mut [u64], places
     }
 }
 
-// One run of the list, with exactly so much lent.
+// One run of the list, with exactly so much lent. The buffers are no struct: of one behind a `&mut` the check lends one field at a time.
 fn answer(
     file: &[u8],
     run: Run,

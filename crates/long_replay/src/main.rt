@@ -81,7 +81,7 @@ fn ask(
     see_clean(pool, stack, places, tree);
 }
 
-// One call of the list, with exactly so much lent.
+// One call of the list, with exactly so much lent. The buffers are no struct: of one behind a `&mut` the check lends one field at a time.
 fn answer(
     file: &[u8],
     call: LongForm,

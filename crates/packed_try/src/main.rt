@@ -80,7 +80,7 @@ fn say_members(start: BitsetIter) {
     say(sum);
 }
 
-// Binds a symbol, if its number is one.
+// Binds a symbol, if its number is one. The three tables are no struct: of one behind a `&mut` the check lends one field at a time.
 fn bind(
     froms: &mut [u32],
     tos: &mut [u32],
