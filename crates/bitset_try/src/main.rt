@@ -4,28 +4,22 @@
 ghost use Rattle.std.specs.Prelude.{◌≡◌, true, false, ◌≤◌, ◌<◌};
 
 use bitset::{Bitset, BitsetIter};
-
-// The descriptor of standard output.
-const STDOUT_FILENO: i32 = 1;
+use replaying::Out;
+use std::io::Write;
 
 // A word for an answer, with a space after it.
 fn say(answer: bool) {
-    if answer {
-        io::write_all(STDOUT_FILENO, b"yes ");
-    } else {
-        io::write_all(STDOUT_FILENO, b"no ");
-    }
+    let _ = write!(Out, "{} ", if answer { "yes" } else { "no" });
 }
 
 // A number, with a space after it.
 fn number(n: usize) {
-    io::print_decimal(STDOUT_FILENO, n as u64);
-    io::write_all(STDOUT_FILENO, b" ");
+    let _ = write!(Out, "{n} ");
 }
 
 // The end of a line.
 fn end_line() {
-    io::write_all(STDOUT_FILENO, b"\n");
+    let _ = writeln!(Out);
 }
 
 // The members that are left, in the order in which they come, and the end of the line.

@@ -14,14 +14,8 @@ const STDIN_FILENO: i32 = 0;
 
 const STDOUT_FILENO: i32 = 1;
 
-// Room for one byte more than the program takes, so that a longer input is seen.
-fn room() -> [u8; 65537]
-    ensures { 65537 ≡ length result }
-{
-    [0; 65537]
-}
-
 // The verdict on an input, with tables lent for the check.
+#[tactic(auto, unfolding(crate::specs::Program::answer_of))]
 fn answer(input: &[u8]) -> Verdict
     ensures { result ≡ answer_of input.now }
 {
@@ -31,8 +25,8 @@ fn answer(input: &[u8]) -> Verdict
             place: 0,
         });
     }
-    let mut symbols = [0u32; 4096];
-    let mut statements = [0u32; 4096];
+    let mut symbols = [0; 4096];
+    let mut statements = [0; 4096];
     filecheck::check(input, &mut symbols, &mut statements)
 }
 
@@ -45,9 +39,10 @@ fn reply(input: &[u8], out: &mut [u8; 64]) -> usize
 }
 
 fn main() {
-    let mut input = room();
+    // One byte more than the program takes, so that a longer input is seen.
+    let mut input = [0; 65537];
     let n = io::read_full(STDIN_FILENO, &mut input);
-    let mut line = [0u8; 64];
+    let mut line = [0; 64];
     let k = reply(&input[..n], &mut line);
     io::write_all(STDOUT_FILENO, &line[..k]);
 }

@@ -2,194 +2,108 @@
 // The list's form is told in tests/make_cases.py, which writes it and the verdicts that are expected, stated by hand.
 #![tactic(auto)]
 
-ghost use Rattle.std.specs.Prelude.{◌≡◌, ◌<◌, length};
+ghost use Rattle.std.specs.Prelude.{◌≤◌, ◌<◌, length, IsSome};
 
-use std::num::wrapping_add_usize;
+use replaying::{Out, STDIN_FILENO, STDOUT_FILENO, byte, filled, number, part};
+use std::io::Write;
 
-// The descriptors of standard input and output.
-const STDIN_FILENO: i32 = 0;
-
-const STDOUT_FILENO: i32 = 1;
-
-// Where the replay stands: the place in the list, and how many bytes the unpacked file has.
-#[derive(Clone, Copy)]
-struct Spot {
-    at: usize,
-    len: usize,
-}
-
-// What one run of a packed file leads to.
-#[derive(Clone, Copy)]
-enum Next {
-    More(Spot),
-    Over(Spot),
-}
-
-// The byte at a place, 0 past the end.
-fn byte(s: &[u8], i: usize) -> u8 {
-    if i < s.len() { s[i] } else { 0 }
-}
-
-fn wide(b: u8) -> usize
-    ensures { result < 256 }
+// Puts the next count bytes of the list behind the file's len bytes, as far as the buffer goes.
+fn literal(list: &mut &[u8], count: usize, file: &mut [u8], len: usize)
+    ensures { length list.new.now ≤ length list.old.now }
 {
-    b as usize
-}
-
-// The four bytes at a place as a number, little-endian.
-fn count_at(s: &[u8], i: usize) -> usize {
-    let low = wide(byte(s, i)) + 256 * wide(byte(s, wrapping_add_usize(i, 1)));
-    let high = wide(byte(s, wrapping_add_usize(i, 2)))
-        + 256 * wide(byte(s, wrapping_add_usize(i, 3)));
-    low + 65536 * high
-}
-
-// Stores a byte where there is room.
-fn put(file: &mut [u8], i: usize, b: u8) {
-    if i < file.len() {
-        file[i] = b;
+    let bytes = part(list, count);
+    for (i, to) in file.iter_mut().skip(len).take(count).enumerate() {
+        *to = bytes.get(i).copied().unwrap_or(0);
     }
 }
 
-// Copies bytes of the list to the end of the file.
-fn literal(list: &[u8], from: usize, count: usize, file: &mut [u8], to: usize) {
-    let mut i = 0;
-    while i < count {
-        put(
-            file,
-            wrapping_add_usize(to, i),
-            byte(list, wrapping_add_usize(from, i)),
-        );
-        i += 1;
+// Puts the next byte of the list so often behind the file's len bytes, as far as the buffer goes.
+fn repeated(list: &mut &[u8], count: usize, file: &mut [u8], len: usize)
+    ensures { length list.new.now ≤ length list.old.now }
+{
+    let b = byte(list);
+    for to in file.iter_mut().skip(len).take(count) {
+        *to = b;
     }
 }
 
-// Puts one byte many times at the end of the file.
-fn repeated(b: u8, count: usize, file: &mut [u8], to: usize) {
-    let mut i = 0;
-    while i < count {
-        put(file, wrapping_add_usize(to, i), b);
-        i += 1;
+// Unpacks one run behind the file's len bytes and answers how many there are then; None at the file's end.
+fn run(list: &mut &[u8], file: &mut [u8], len: usize) -> Option<usize>
+    ensures smaller { IsSome result → length list.new.now < length list.old.now }
+    ensures shrinks { length list.new.now ≤ length list.old.now }
+{
+    let kind = byte(list);
+    if kind != 1 && kind != 2 {
+        return None;
     }
-}
-
-// Unpacks one run.
-fn run(list: &[u8], spot: Spot, file: &mut [u8]) -> Next {
-    let kind = byte(list, spot.at);
-    let count = count_at(list, wrapping_add_usize(spot.at, 1));
-    let body = wrapping_add_usize(spot.at, 5);
-    let len = wrapping_add_usize(spot.len, count);
+    let count = number(list) as usize;
     if kind == 1 {
-        literal(list, body, count, file, spot.len);
-        return Next::More(Spot {
-            at: wrapping_add_usize(body, count),
-            len,
-        });
+        literal(list, count, file, len);
+    } else {
+        repeated(list, count, file, len);
     }
-    if kind == 2 {
-        repeated(byte(list, body), count, file, spot.len);
-        return Next::More(Spot {
-            at: wrapping_add_usize(body, 1),
-            len,
-        });
-    }
-    Next::Over(Spot {
-        at: wrapping_add_usize(spot.at, 1),
-        len: spot.len,
-    })
+    Some(len.wrapping_add(count))
 }
 
-// Unpacks one file, run by run. Each run takes bytes of the list, so there are no more runs than bytes.
-fn unpack(list: &[u8], start: Spot, file: &mut [u8]) -> Spot {
-    let mut spot = start;
-    let mut turns = list.len();
-    while turns > 0 {
-        match run(list, spot, file) {
-            Next::More(next) => {
-                spot = next;
-            }
-            Next::Over(next) => {
-                return next;
-            }
-        }
-        turns -= 1;
+// Unpacks one file, run by run, behind the bytes that it shares with the one before, and answers how many bytes it has.
+fn unpack(list: &mut &[u8], file: &mut [u8], shared: usize) -> usize
+    ensures { length list.new.now ≤ length list.old.now }
+{
+    let mut len = shared;
+    while let Some(longer) = run(list, file, len) {
+        len = longer;
     }
-    spot
-}
-
-// Writes a part of the list, if it is one.
-fn say_part(list: &[u8], from: usize, to: usize) {
-    if to <= list.len() {
-        if from <= to {
-            io::write_all(STDOUT_FILENO, &list[from..to]);
-        }
-    }
+    len
 }
 
 // Has the first bytes of the buffer checked, and writes the verdict.
 fn judge(buffer: &[u8], len: usize) {
-    if len <= buffer.len() {
-        let mut symbols = [0u32; 4096];
-        let mut statements = [0u32; 4096];
-        verdict_text::print(
-            STDOUT_FILENO,
-            filecheck::check(&buffer[..len], &mut symbols, &mut statements),
-        );
-    } else {
-        io::write_all(STDOUT_FILENO, b"is longer than the buffer\n");
-    }
+    let Some(file) = buffer.get(..len) else {
+        let _ = writeln!(Out, "is longer than the buffer");
+        return;
+    };
+    let mut symbols = [0; 4096];
+    let mut statements = [0; 4096];
+    verdict_text::print(
+        STDOUT_FILENO,
+        filecheck::check(file, &mut symbols, &mut statements),
+    );
 }
 
-// Unpacks the next file and writes its name and its verdict.
-fn replay(list: &[u8], spot: Spot, file: &mut [u8]) -> Spot {
-    let name = wrapping_add_usize(spot.at, 1);
-    let kept = wrapping_add_usize(name, wide(byte(list, spot.at)));
-    let start = Spot {
-        at: wrapping_add_usize(kept, 4),
-        len: count_at(list, kept),
-    };
-    let end = unpack(list, start, file);
-    say_part(list, name, kept);
-    io::write_all(STDOUT_FILENO, b" ");
-    judge(file, end.len);
-    end
+// Unpacks the next file, whose name has so many bytes, and writes its name and its verdict.
+fn replay(named: usize, list: &mut &[u8], file: &mut [u8])
+    ensures { length list.new.now ≤ length list.old.now }
+{
+    let name = part(list, named);
+    let shared = number(list) as usize;
+    let len = unpack(list, file, shared);
+    // A name that the list's end cuts is not written.
+    if name.len() == named {
+        let _ = Out.write_all(name);
+    }
+    let _ = write!(Out, " ");
+    judge(file, len);
 }
 
 // Replays the whole list and answers how many files it has.
-fn replay_all(list: &[u8], file: &mut [u8]) -> u64 {
-    let mut files: u64 = 0;
-    let mut spot = Spot { at: 0, len: 0 };
-    let mut turns = list.len();
-    while turns > 0 {
-        if byte(list, spot.at) == 0 {
-            break;
+fn replay_all(list: &[u8], file: &mut [u8]) -> usize {
+    let mut rest = list;
+    let mut files = 0;
+    loop {
+        let named = byte(&mut rest);
+        if named == 0 {
+            return files;
         }
-        spot = replay(list, spot, file);
-        files = std::num::wrapping_add_u64(files, 1);
-        turns -= 1;
+        replay(usize::from(named), &mut rest, file);
+        files += 1;
     }
-    files
-}
-
-// Room for the list.
-fn list_room() -> [u8; 1048576]
-    ensures { 1048576 ≡ length result }
-{
-    [0; 1048576]
-}
-
-// Room for a file: some bytes more than document 01 allows.
-fn file_room() -> [u8; 1048580]
-    ensures { 1048580 ≡ length result }
-{
-    [0; 1048580]
 }
 
 fn main() {
-    let mut list = list_room();
-    let mut file = file_room();
+    let mut list: [u8; 1048576] = filled(0);
+    // Some bytes more than document 01 allows.
+    let mut file: [u8; 1048580] = filled(0);
     let n = io::read_full(STDIN_FILENO, &mut list);
     let files = replay_all(&list[..n], &mut file);
-    io::print_decimal(STDOUT_FILENO, files);
-    io::write_all(STDOUT_FILENO, b" files\n");
+    let _ = writeln!(Out, "{files} files");
 }

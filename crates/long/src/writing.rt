@@ -1,7 +1,7 @@
 // What is told of a proof's answer where its long form is asked for: 60, 61, or its length, and then it is written.
 ghost use Rattle.std.specs.Prelude.{◌≡◌, length};
 ghost use Rattle.frames.specs.Logic.{below};
-ghost use Rattle.findings.specs.declared.Answer.TheVariants.{Accepted};
+ghost use Rattle.findings.specs.Answers.{Accepted};
 ghost use Rattle.postorder.specs.LongForm.{entries_for};
 ghost use Rattle.long.specs.Telling.{TellsLong};
 

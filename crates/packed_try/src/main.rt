@@ -3,48 +3,32 @@
 // choice of the texts are told in tests/packed/make_try.py, which works out the expected lines by itself.
 #![tactic(auto)]
 
-ghost use Rattle.std.specs.Prelude.{◌≡◌, length};
-
 use bitset::{Bitset, BitsetIter};
 use frames::numbers::SymbolNo;
 use frames::record::is_assertion;
 use frames::refer::entry;
 use frames::fields;
 use packed::images;
+use replaying::{Out, STDIN_FILENO};
+use std::io::Write;
 
-// The descriptors of standard input and output.
-const STDIN_FILENO: i32 = 0;
-
-const STDOUT_FILENO: i32 = 1;
-
-// Room for a file of at most 65,536 bytes, and one byte more.
-fn file_room() -> [u8; 65537]
-    ensures { 65537 ≡ length result }
-{
-    [0; 65537]
-}
-
-// Room for the sets of 4,096 symbols.
-fn sets_room() -> [u64; 16384]
-    ensures { 16384 ≡ length result }
-{
-    [0; 16384]
+// A good file with the tables that its check filled: where each symbol and each statement lies, and how many statements there are.
+#[derive(Clone, Copy)]
+struct Good<'a> {
+    file: &'a [u8],
+    symbols: &'a [u32],
+    statements: &'a [u32],
+    count: usize,
 }
 
 // A number, with a space before it.
 fn say(n: usize) {
-    io::write_all(STDOUT_FILENO, b" ");
-    io::print_decimal(STDOUT_FILENO, n as u64);
-}
-
-// The number of a truth value.
-fn truth(answer: bool) -> usize {
-    if answer { 1 } else { 0 }
+    let _ = write!(Out, " {n}");
 }
 
 // A place in a table of places.
 fn place(n: usize) -> u32 {
-    if n < 4294967296 { n as u32 } else { 4294967295 }
+    u32::try_from(n).unwrap_or(u32::MAX)
 }
 
 // How far the pool is used: as the answer says, and as before where it names no place.
@@ -59,8 +43,10 @@ fn mix(sum: u16, b: u8) -> u16 {
 
 // The checksum of a range of the pool.
 fn checksum(pool: &[u8], from: usize, to: usize) -> u16 {
-    let range = pool.get(from..to.min(pool.len())).unwrap_or(&[]);
-    range.iter().fold(0, |sum, b| mix(sum, *b))
+    pool.iter()
+        .take(to)
+        .skip(from)
+        .fold(0, |sum, &b| mix(sum, b))
 }
 
 // The length and the checksum of a range.
@@ -75,7 +61,7 @@ fn say_members(members: BitsetIter) {
     say(members.fold(0, |sum, n| sum.wrapping_add(n)));
 }
 
-// Binds a symbol, if its number is one.
+// Binds a symbol, if its number is one. The three tables are no struct: of one behind a `&mut` the check lends one field at a time.
 fn bind(
     froms: &mut [u32],
     tos: &mut [u32],
@@ -113,11 +99,9 @@ fn set_for(p: usize, i: usize) -> Bitset {
         .set_bit(255 - i % 64)
 }
 
-// Binds the variable of the i-th hypothesis of statement p, where it is a $f.
+// Binds the variable of the i-th hypothesis of statement p, where it is a $f, and answers how far the pool is then used.
 fn bind_one(
-    file: &[u8],
-    symbols: &[u32],
-    statements: &[u32],
+    good: Good<'_>,
     p: usize,
     i: usize,
     pool: &mut [u8],
@@ -126,26 +110,23 @@ fn bind_one(
     tos: &mut [u32],
     sets: &mut [u64],
 ) -> usize {
-    let h = fields::hypothesis(file, entry(statements, p), i);
-    let at = fields::statement_offset(statements, h);
-    if fields::kind(file, at) != 2 {
+    let h = fields::hypothesis(good.file, entry(good.statements, p), i);
+    let at = fields::statement_offset(good.statements, h);
+    if fields::kind(good.file, at) != 2 {
         return used;
     }
-    let v = fields::variable(file, at);
+    let v = fields::variable(good.file, at);
     let room = pool.len();
-    let text = entry(statements, source(p, i));
-    let answer = packed_calls::packed_spell(file, symbols, text, pool, used, room);
+    let text = entry(good.statements, source(p, i));
+    let answer = packed_calls::packed_spell(good.file, good.symbols, text, pool, used, room);
     let end = kept(answer, used, room);
-    let s = v.0;
-    bind(froms, tos, sets, s, used, end, set_for(p, i));
+    bind(froms, tos, sets, v.0, used, end, set_for(p, i));
     end
 }
 
 // Binds the variables of all listed $f, and answers how far the pool is then used.
 fn bind_all(
-    file: &[u8],
-    symbols: &[u32],
-    statements: &[u32],
+    good: Good<'_>,
     p: usize,
     pool: &mut [u8],
     froms: &mut [u32],
@@ -153,52 +134,37 @@ fn bind_all(
     sets: &mut [u64],
 ) -> usize {
     clear(froms, tos, sets);
-    let n = fields::hypotheses(file, entry(statements, p));
     let mut used = 0;
-    for i in 0..n {
-        used = bind_one(
-            file, symbols, statements, p, i, pool, used, froms, tos, sets,
-        );
+    for i in 0..fields::hypotheses(good.file, entry(good.statements, p)) {
+        used = bind_one(good, p, i, pool, used, froms, tos, sets);
     }
     used
 }
 
 // Of how many statements a range is the symbols as substituted.
 fn others(
-    file: &[u8],
-    symbols: &[u32],
-    statements: &[u32],
-    count: usize,
+    good: Good<'_>,
     froms: &[u32],
     tos: &[u32],
     pool: &[u8],
     from: usize,
     to: usize,
 ) -> usize {
-    (0..count)
-        .filter(|q| {
-            let at = entry(statements, *q);
-            packed_calls::packed_is_substituted(file, symbols, at, froms, tos, pool, from, to) == 1
-        })
-        .count()
+    let is_other = |q: &usize| {
+        let at = entry(good.statements, *q);
+        packed_calls::packed_is_substituted(good.file, good.symbols, at, froms, tos, pool, from, to)
+            == 1
+    };
+    (0..good.count).filter(is_other).count()
 }
 
 // How many statements have a range as their symbols.
-fn raws(
-    file: &[u8],
-    symbols: &[u32],
-    statements: &[u32],
-    count: usize,
-    pool: &[u8],
-    from: usize,
-    to: usize,
-) -> usize {
-    (0..count)
-        .filter(|q| {
-            let at = entry(statements, *q);
-            packed_calls::packed_is_spelled(file, symbols, at, pool, from, to) == 1
-        })
-        .count()
+fn raws(good: Good<'_>, pool: &[u8], from: usize, to: usize) -> usize {
+    let is_raw = |q: &usize| {
+        let at = entry(good.statements, *q);
+        packed_calls::packed_is_spelled(good.file, good.symbols, at, pool, from, to) == 1
+    };
+    (0..good.count).filter(is_raw).count()
 }
 
 // Where the two texts of a statement end: its symbols as substituted, and after them its symbols as they are.
@@ -210,14 +176,15 @@ struct Texts {
 
 // Writes the two texts into the pool.
 fn write_texts(
-    file: &[u8],
-    symbols: &[u32],
+    good: Good<'_>,
     at: u32,
     froms: &[u32],
     tos: &[u32],
     pool: &mut [u8],
     used: usize,
 ) -> Texts {
+    let file = good.file;
+    let symbols = good.symbols;
     let room = pool.len();
     let text = packed_calls::packed_substitute(file, symbols, at, froms, tos, pool, used, room);
     let end = kept(text, used, room);
@@ -228,10 +195,7 @@ fn write_texts(
 
 // Tells what is in the pool, and what the comparisons say.
 fn tell(
-    file: &[u8],
-    symbols: &[u32],
-    statements: &[u32],
-    count: usize,
+    good: Good<'_>,
     at: u32,
     froms: &[u32],
     tos: &[u32],
@@ -239,34 +203,31 @@ fn tell(
     used: usize,
     texts: Texts,
 ) {
-    let end = texts.end;
-    let last = texts.last;
+    let Texts { end, last } = texts;
+    let file = good.file;
+    let symbols = good.symbols;
     say_range(pool, 0, used);
     say_range(pool, used, end);
     say(packed_calls::packed_is_substituted(file, symbols, at, froms, tos, pool, used, end));
-    say(others(
-        file, symbols, statements, count, froms, tos, pool, used, end,
-    ));
-    say(raws(file, symbols, statements, count, pool, end, last));
+    say(others(good, froms, tos, pool, used, end));
+    say(raws(good, pool, end, last));
 }
 
 // The variable of the first hypothesis that a statement lists, where that is a $f; else a number that no symbol has.
-fn first_variable(file: &[u8], statements: &[u32], at: u32) -> usize {
-    if fields::hypotheses(file, at) == 0 {
+fn first_variable(good: Good<'_>, at: u32) -> usize {
+    if fields::hypotheses(good.file, at) == 0 {
         return 65536;
     }
-    let h = fields::statement_offset(statements, fields::hypothesis(file, at, 0));
-    if fields::kind(file, h) != 2 {
+    let h = fields::statement_offset(good.statements, fields::hypothesis(good.file, at, 0));
+    if fields::kind(good.file, h) != 2 {
         return 65536;
     }
-    let v = fields::variable(file, h);
-    v.0
+    fields::variable(good.file, h).0
 }
 
 // Tells whether there is no room where one byte is wanting, and whether a turned image of symbol s is refused.
 fn try_limits(
-    file: &[u8],
-    symbols: &[u32],
+    good: Good<'_>,
     at: u32,
     s: usize,
     froms: &mut [u32],
@@ -276,17 +237,19 @@ fn try_limits(
     used: usize,
     end: usize,
 ) {
+    let file = good.file;
+    let symbols = good.symbols;
     let short = end.wrapping_sub(1);
     let less = packed_calls::packed_substitute(file, symbols, at, froms, tos, pool, used, short);
-    say(truth(less == packed_calls::FULL));
+    say(usize::from(less == packed_calls::FULL));
     bind(froms, tos, sets, s, 1, 0, Bitset::new());
     let turned = packed_calls::packed_substitute(file, symbols, at, froms, tos, pool, used, end);
-    say(truth(turned == packed_calls::REFUSED));
+    say(usize::from(turned == packed_calls::REFUSED));
 }
 
 // Tells the members of the set of the symbols as substituted.
-fn tell_vars(file: &[u8], symbols: &[u32], at: u32, sets: &[u64]) {
-    let vars = images::do_substitute_vars(file, symbols, at, sets);
+fn tell_vars(good: Good<'_>, at: u32, sets: &[u64]) {
+    let vars = images::do_substitute_vars(good.file, good.symbols, at, sets);
     say_members(vars.iter());
 }
 
@@ -299,37 +262,29 @@ fn try_copy(pool: &mut [u8], used: usize, end: usize) {
     say_range(pool, end, last);
     let short = last.wrapping_sub(1);
     let less = packed_calls::packed_copy(pool, end, short, used, end);
-    say(truth(less == packed_calls::FULL));
+    say(usize::from(less == packed_calls::FULL));
     let turned = packed_calls::packed_copy(pool, end, room, end, used);
-    say(truth(turned == packed_calls::REFUSED));
+    say(usize::from(turned == packed_calls::REFUSED));
 }
 
 // Writes the two texts, tells what they are and what a copy of the first is, and answers where the first ends.
 fn try_texts(
-    file: &[u8],
-    symbols: &[u32],
-    statements: &[u32],
-    count: usize,
+    good: Good<'_>,
     at: u32,
     froms: &[u32],
     tos: &[u32],
     pool: &mut [u8],
     used: usize,
 ) -> usize {
-    let texts = write_texts(file, symbols, at, froms, tos, pool, used);
-    tell(
-        file, symbols, statements, count, at, froms, tos, pool, used, texts,
-    );
+    let texts = write_texts(good, at, froms, tos, pool, used);
+    tell(good, at, froms, tos, pool, used, texts);
     try_copy(pool, used, texts.end);
     texts.end
 }
 
 // Tries the statement at `at`, whose variables are bound.
 fn try_bound(
-    file: &[u8],
-    symbols: &[u32],
-    statements: &[u32],
-    count: usize,
+    good: Good<'_>,
     at: u32,
     pool: &mut [u8],
     used: usize,
@@ -337,76 +292,62 @@ fn try_bound(
     tos: &mut [u32],
     sets: &mut [u64],
 ) {
-    let end = try_texts(file, symbols, statements, count, at, froms, tos, pool, used);
-    tell_vars(file, symbols, at, sets);
-    let s = first_variable(file, statements, at);
-    try_limits(file, symbols, at, s, froms, tos, sets, pool, used, end);
+    let end = try_texts(good, at, froms, tos, pool, used);
+    tell_vars(good, at, sets);
+    let s = first_variable(good, at);
+    try_limits(good, at, s, froms, tos, sets, pool, used, end);
 }
 
 // Tries statement p, where it is a $a or $p.
 fn try_one(
-    file: &[u8],
-    symbols: &[u32],
-    statements: &[u32],
-    count: usize,
+    good: Good<'_>,
     p: usize,
     pool: &mut [u8],
     froms: &mut [u32],
     tos: &mut [u32],
     sets: &mut [u64],
 ) {
-    let at = entry(statements, p);
-    if is_assertion(fields::kind(file, at)) {
-        io::write_all(STDOUT_FILENO, fields::label(file, at));
-        let used = bind_all(file, symbols, statements, p, pool, froms, tos, sets);
-        try_bound(
-            file, symbols, statements, count, at, pool, used, froms, tos, sets,
-        );
-        io::write_all(STDOUT_FILENO, b"\n");
+    let at = entry(good.statements, p);
+    if is_assertion(fields::kind(good.file, at)) {
+        let _ = Out.write_all(fields::label(good.file, at));
+        let used = bind_all(good, p, pool, froms, tos, sets);
+        try_bound(good, at, pool, used, froms, tos, sets);
+        let _ = writeln!(Out);
     }
 }
 
-// Tries all statements, in order.
-fn try_all(
-    file: &[u8],
-    symbols: &[u32],
-    statements: &[u32],
-    count: usize,
-    pool: &mut [u8],
-    froms: &mut [u32],
-    tos: &mut [u32],
-    sets: &mut [u64],
-) {
-    for p in 0..count {
-        try_one(file, symbols, statements, count, p, pool, froms, tos, sets);
+// Tries all statements of a good file, in order, with room lent for the pool and the table of images.
+fn try_good(good: Good<'_>) {
+    let mut pool = [0; 65536];
+    let mut froms = [0; 4096];
+    let mut tos = [0; 4096];
+    // The sets of 4,096 symbols.
+    let mut sets = [0; 16384];
+    for p in 0..good.count {
+        try_one(good, p, &mut pool, &mut froms, &mut tos, &mut sets);
     }
-}
-
-// Tries a good file, with room lent for the pool and the table of images.
-fn try_good(file: &[u8], symbols: &[u32; 4096], statements: &[u32; 4096], count: usize) {
-    let mut pool = io::large_buffer();
-    let mut froms = [0u32; 4096];
-    let mut tos = [0u32; 4096];
-    let mut sets = sets_room();
-    try_all(
-        file, symbols, statements, count, &mut pool, &mut froms, &mut tos, &mut sets,
-    );
 }
 
 // Has a file checked, and tries it where it is good.
 fn try_file(file: &[u8]) {
-    let mut symbols = [0u32; 4096];
-    let mut statements = [0u32; 4096];
+    let mut symbols = [0; 4096];
+    let mut statements = [0; 4096];
     match filecheck::check(file, &mut symbols, &mut statements) {
-        Ok(sizes) => try_good(file, &symbols, &statements, sizes.statements),
+        Ok(sizes) => try_good(Good {
+            file,
+            symbols: &symbols,
+            statements: &statements,
+            count: sizes.statements,
+        }),
         Err(_) => {
-            io::write_all(STDOUT_FILENO, b"refused\n");
+            let _ = writeln!(Out, "refused");
         }
     }
 }
 
 fn main() {
-    let mut input = file_room();
+    // A file of at most 65,536 bytes, and one byte more.
+    let mut input = [0; 65537];
     let n = io::read_full(STDIN_FILENO, &mut input);
     try_file(&input[..n]);
 }

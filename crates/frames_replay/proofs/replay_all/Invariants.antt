@@ -1,9 +1,9 @@
--- `frames_replay::replay_all` is safe and ends: the turns that are left fall, and the buffer keeps its length.
-use Rattle.std.proofs.Common.{◌≡◌, length}
+-- `frames_replay::replay_all` ends: each file takes bytes off the list, so there are no more files than bytes.
+use Rattle.std.proofs.Common.{◌≤◌, ◌+◌, length}
 use Rattle.frames_replay.proofs.replay_all.Given as goal
 
-abbrev pub invariant-loop-turns : goal.invariant-loop-turns
-invariant-loop-turns l = length l.file ≡ length l.initial.file
+abbrev pub invariant-loop-rest : goal.invariant-loop-rest
+invariant-loop-rest l = l.files + length l.rest ≤ length l.list
 
-abbrev pub decreases-loop-turns : goal.decreases-loop-turns
-decreases-loop-turns l = l.turns
+abbrev pub decreases-loop-rest : goal.decreases-loop-rest
+decreases-loop-rest l = length l.rest

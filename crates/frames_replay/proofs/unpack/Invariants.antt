@@ -1,9 +1,9 @@
--- `frames_replay::unpack` is safe and ends: the turns that are left fall, and the buffer keeps its length.
-use Rattle.std.proofs.Common.{◌≡◌, length}
+-- `frames_replay::unpack` ends: each run takes bytes off the list.
+use Rattle.std.proofs.Common.{◌≤◌, length}
 use Rattle.frames_replay.proofs.unpack.Given as goal
 
-abbrev pub invariant-loop-turns : goal.invariant-loop-turns
-invariant-loop-turns l = length l.file ≡ length l.initial.file
+abbrev pub invariant-loop-longer : goal.invariant-loop-longer
+invariant-loop-longer l = length l.list.now ≤ length l.fn.list.now
 
-abbrev pub decreases-loop-turns : goal.decreases-loop-turns
-decreases-loop-turns l = l.turns
+abbrev pub decreases-loop-longer : goal.decreases-loop-longer
+decreases-loop-longer l = length l.list.now

@@ -1,9 +1,0 @@
--- `bench_replay::clean_words` is safe and ends: what is left of the buffer falls.
-use Rattle.std.proofs.Common.{◌-◌, ◌≤◌, length}
-use Rattle.bench_replay.proofs.clean_words.Given as goal
-
-abbrev pub invariant-loop-i : goal.invariant-loop-i
-invariant-loop-i l = l.i ≤ length l.words
-
-abbrev pub decreases-loop-i : goal.decreases-loop-i
-decreases-loop-i l = length l.words - l.i

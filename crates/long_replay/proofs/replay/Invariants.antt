@@ -1,9 +1,0 @@
--- `long_replay::replay` is safe and ends: the turns that are left fall, and the buffers keep their lengths.
-use Rattle.std.proofs.Common.{◌≡◌, length}
-use Rattle.long_replay.proofs.replay.Given as goal
-
-abbrev pub invariant-loop-turns : goal.invariant-loop-turns
-invariant-loop-turns l = (length l.pool ≡ length l.initial.pool) × ((length l.stack ≡ length l.initial.stack) × ((length l.places ≡ length l.initial.places) × ((length l.tree ≡ length l.initial.tree) × (length l.output ≡ length l.initial.output))))
-
-abbrev pub decreases-loop-turns : goal.decreases-loop-turns
-decreases-loop-turns l = l.turns
