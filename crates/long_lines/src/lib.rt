@@ -55,7 +55,13 @@ fn put_long(out: &mut [u8], label: &[u8], text: &[u8]) -> Option<usize>
 }
 
 // Puts `LABEL refused NUMBER PLACE STEPS` at the start of out.
-fn put_refusal(out: &mut [u8], label: &[u8], number: usize, place: usize, steps: usize) -> Option<usize>
+fn put_refusal(
+    out: &mut [u8],
+    label: &[u8],
+    number: usize,
+    place: usize,
+    steps: usize,
+) -> Option<usize>
     ensures { Adds (refusal_line label.now number place steps) 0 (length out.old) out.old out.new result }
 {
     let name = put_named(out, label, b" refused ");

@@ -4,10 +4,10 @@
 #![tactic(auto)]
 
 use bitset::{Bitset, BitsetIter};
+use frames::fields;
 use frames::numbers::SymbolNo;
 use frames::record::is_assertion;
 use frames::refer::entry;
-use frames::fields;
 use packed::images;
 use replaying::{Out, STDIN_FILENO};
 use std::io::Write;

@@ -16,8 +16,8 @@ ghost use Rattle.reply.specs.Replies.{Listed, Held, Counted};
 
 use answers::{number_in, place_in, steps_in};
 use filecheck::check;
-use frames::numbers::StatementNo;
 use frames::fields;
+use frames::numbers::StatementNo;
 use lines::{put_answer, put_checked, put_refused};
 use proving::offsets;
 use std::io::Read;
