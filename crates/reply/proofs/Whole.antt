@@ -1,5 +1,7 @@
 -- The whole reply: the answers that the walk laid, the verdict, and that the buffer always has room.
-use Rattle.std.proofs.Common.{Some, None, Ok}
+use Rattle.std.proofs.Common.{Some, None, Ok, Err}
+use Rattle.std.specs.Option.{unwrap_or}
+use Rattle.std.specs.Result.{result_unwrap_or}
 use Prim.Native.Nat.{ℕ, ◌+◌, ◌≤◌, ◌<◌}
 use mathlib.Core.Path.{◌≡◌, refl, sym, ◌∙◌, ap}
 use mathlib.Core.List.{List}
@@ -27,11 +29,9 @@ use Rattle.reply.specs.Replies.{Listed, Held, Counted}
 use Rattle.reply.proofs.Lengths.{answers-few, output-few}
 
 -- how many $p were answered, by the variant
-pub counted-some : {walked : Walked} {n : ℕ} → walked ≡ Ok n → Counted walked n
-counted-some {walked} {n} is = record { is = λ m e. let same : Ok n ≡ Ok m = sym is ∙ e in cc }
-
-pub counted_none : {walked : Walked} {why : Refusal} {at : ℕ} → walked ≡ Refused why at → Counted walked 0
-counted_none {walked} {why} {at} is = record { is = λ m e. let z : ◌≡◌ {A = ℕ} 0 1 = cc in absurd (omega arith) }
+pub counted : (walked : Walked) → Counted walked (result_unwrap_or walked 0)
+counted (Ok n) = record { is = λ m e. let same : Ok n ≡ Ok m = e in cc }
+counted (Err away) = record { is = λ m e. let z : ◌≡◌ {A = ℕ} 0 1 = cc in absurd (omega arith) }
 
 -- the lent buffers have the greatest sizes
 pub room-greatest : (pool stack places : List ℕ) → length pool ≡ 65536 → length stack ≡ 10240 → length places ≡ 40960 → room_in pool stack places ≡ greatest
@@ -101,10 +101,15 @@ module _ (text : List ℕ) {out out' : List ℕ} {r : Grown} (a : Adds text 0 (l
   pub stands-full : r ≡ None → IsPrefixLen 0 out' × (take 0 out' ≡ text)
   stands-full is = let over = grown-of-full (length text) 0 (length out) (sym is ∙ a.answers) in absurd (omega arith)
 
+  -- in either case what is counted is the text
+  pub stands : IsPrefixLen (unwrap_or r 0) out' × (take (unwrap_or r 0) out' ≡ text)
+  stands = by r refl
+    where
+      by : (x : Grown) → r ≡ x → IsPrefixLen (unwrap_or x 0) out' × (take (unwrap_or x 0) out' ≡ text)
+      by (Some n) is = stands-to is
+      by None is = stands-full is
+
 -- there is always room
 module _ (input : List ℕ) {out out' : List ℕ} {r : Grown} (a : Adds (output_of input) 0 (length out) out out' r) (size : 524352 ≤ length out) where
-  pub replies-to : {n : ℕ} → r ≡ Some n → IsPrefixLen n out' × (take n out' ≡ output_of input)
-  replies-to is = stands-to (output_of input) a (omega (arith, output-few input)) is
-
-  pub replies-full : r ≡ None → IsPrefixLen 0 out' × (take 0 out' ≡ output_of input)
-  replies-full is = stands-full (output_of input) a (omega (arith, output-few input)) is
+  pub replies : IsPrefixLen (unwrap_or r 0) out' × (take (unwrap_or r 0) out' ≡ output_of input)
+  replies = stands (output_of input) a (omega (arith, output-few input))
