@@ -9,11 +9,7 @@ fn put_text(pool: &mut [u8], at: usize, text: &[u8])
     requires { at + length text.now ≤ length pool.old }
     ensures { pool.new ≡ written text.now at pool.old }
 {
-    let mut i = 0;
-    while i < text.len() {
-        pool[at + i] = text[i];
-        i += 1;
-    }
+    pool[at..at + text.len()].copy_from_slice(text);
 }
 
 // Puts a name of one byte into the pool at `at`, its high bit set. Most names are of one byte.
@@ -47,12 +43,7 @@ fn copy_within(pool: &mut [u8], from: usize, to: usize, at: usize)
     requires { (from ≤ to) × ((to ≤ at) × (at + (to - from) ≤ length pool.old)) }
     ensures { pool.new ≡ written (range from to pool.old) at pool.old }
 {
-    let n = to - from;
-    let mut i = 0;
-    while i < n {
-        pool[at + i] = pool[from + i];
-        i += 1;
-    }
+    pool.copy_within(from..to, at);
 }
 
 // Adds a name to the pool: how far it is used then, or none where there is no room.
