@@ -43,12 +43,10 @@ fn matches_name(pool: &[u8], at: usize, name: &[u8]) -> bool
     if name.len() == 1 {
         return matches_byte(pool, at, name);
     }
-    let mut i = 0;
-    while i < name.len() {
+    for i in 0..name.len() {
         if ended_byte(name, i) != pool[at + i] {
             return false;
         }
-        i += 1;
     }
     true
 }
@@ -58,14 +56,7 @@ fn matches_range(pool: &[u8], at: usize, from: usize, n: usize) -> bool
     requires { (at + n ≤ length pool.now) × (from + n ≤ length pool.now) }
     ensures { result ≡ same (range from (from + n) pool.now) (range at (at + n) pool.now) }
 {
-    let mut i = 0;
-    while i < n {
-        if pool[from + i] != pool[at + i] {
-            return false;
-        }
-        i += 1;
-    }
-    true
+    pool[from..from + n] == pool[at..at + n]
 }
 
 // Meets a name in the bytes from `at` up to `to`: where it ends, or none where other bytes stand there.
@@ -140,14 +131,12 @@ pub fn do_substitute_eq(
     let n = symbol_count(file, at);
     let base = symbols_from(file, at);
     let mut c = from;
-    let mut i = 1;
-    while i < n {
+    for i in 1..n {
         let s = SymbolNo(u16_at(file, base + 2 * i));
-        match meet_piece(file, symbols, froms, tos, s, pool, c, to) {
-            Some(next) => c = next,
-            None => return false,
-        }
-        i += 1;
+        let Some(next) = meet_piece(file, symbols, froms, tos, s, pool, c, to) else {
+            return false;
+        };
+        c = next;
     }
     c == to
 }
@@ -161,15 +150,13 @@ pub fn raw_eq(file: &[u8], symbols: &[u32], at: u32, pool: &[u8], from: usize, t
     let n = symbol_count(file, at);
     let base = symbols_from(file, at);
     let mut d = from;
-    let mut j = 1;
-    while j < n {
+    for j in 1..n {
         let s = SymbolNo(u16_at(file, base + 2 * j));
         let name = fields::name(file, entry(symbols, s.0));
-        match meet_name(pool, d, to, name) {
-            Some(next) => d = next,
-            None => return false,
-        }
-        j += 1;
+        let Some(next) = meet_name(pool, d, to, name) else {
+            return false;
+        };
+        d = next;
     }
     d == to
 }

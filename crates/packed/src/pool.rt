@@ -32,8 +32,7 @@ fn put_name(pool: &mut [u8], at: usize, name: &[u8])
         return;
     }
     put_text(pool, at, name);
-    if 0 < n {
-        let last = name[n - 1];
+    if let Some(last) = name.last() {
         pool[at + n - 1] = 128 + last % 128;
     }
 }

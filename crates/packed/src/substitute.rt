@@ -72,11 +72,9 @@ pub fn do_substitute(
     let n = symbol_count(file, at);
     let base = symbols_from(file, at);
     let mut end = used;
-    let mut i = 1;
-    while i < n {
+    for i in 1..n {
         let s = SymbolNo(u16_at(file, base + 2 * i));
         end = add_piece(file, symbols, froms, tos, s, pool, end, limit)?;
-        i += 1;
     }
     Some(end)
 }
@@ -97,11 +95,9 @@ pub fn do_substitute_raw(
     let n = symbol_count(file, at);
     let base = symbols_from(file, at);
     let mut end = used;
-    let mut i = 1;
-    while i < n {
+    for i in 1..n {
         let s = SymbolNo(u16_at(file, base + 2 * i));
         end = add_symbol(file, symbols, s, pool, end, limit)?;
-        i += 1;
     }
     Some(end)
 }

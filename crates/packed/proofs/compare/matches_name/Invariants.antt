@@ -8,6 +8,3 @@ use Rattle.packed.proofs.compare.matches_name.Given as goal
 
 abbrev pub invariant-loop-i : goal.invariant-loop-i
 invariant-loop-i l = (l.i ≤ length l.name) × SameSoFar (ended l.name) (range l.at (l.at + length l.name) l.pool) l.i
-
-abbrev pub decreases-loop-i : goal.decreases-loop-i
-decreases-loop-i l = length l.name - l.i

@@ -33,12 +33,12 @@ meet_name-requires c =
     let h = here-symbol a.file.now a.at c.loop-j.j c.symbol_count-n.ensures.0 c.symbols_from-base.ensures.0 c.u16_at.ensures.0 (omega arith) in
     search rules
 
-pub returns-in-None : goal.returns-in-None
-returns-in-None c =
+pub returns-in_default : goal.returns-in_default
+returns-in_default c =
     let whole = raw-lists c.args.file.now c.args.symbols.now c.args.at
     (let a = c.args in
     let h = here-symbol a.file.now a.at c.loop-j.j c.symbol_count-n.ensures.0 c.symbols_from-base.ensures.0 c.u16_at.ensures.0 (omega arith) in
-    meets-stop c.loop-j.invariant h (sym c.in-None.is ∙ met-spelled a.file.now a.symbols.now c.u16_at.result _ _ _ c.meet_name.ensures c.name-name.ensures c.entry.ensures)) in record { bytes = whole.0; lists = whole.1 }
+    meets-stop c.loop-j.invariant h (sym c.in_default.is ∙ met-spelled a.file.now a.symbols.now c.u16_at.result _ _ _ c.meet_name.ensures c.name-name.ensures c.entry.ensures)) in record { bytes = whole.0; lists = whole.1 }
 
 pub loop-j-preserved : goal.loop-j-preserved
 loop-j-preserved c =

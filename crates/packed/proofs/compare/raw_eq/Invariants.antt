@@ -7,6 +7,3 @@ use Rattle.packed.proofs.compare.raw_eq.Given as goal
 
 abbrev pub invariant-loop-j : goal.invariant-loop-j
 invariant-loop-j l = Meets (spelled l.file l.symbols) (symbols_at l.file l.at) l.pool l.from l.to l.d l.j
-
-abbrev pub decreases-loop-j : goal.decreases-loop-j
-decreases-loop-j l = l.n - l.j

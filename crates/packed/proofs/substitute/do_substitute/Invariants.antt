@@ -7,6 +7,3 @@ use Rattle.packed.proofs.substitute.do_substitute.Given as goal
 
 abbrev pub invariant-loop-i : goal.invariant-loop-i
 invariant-loop-i l = Joins (piece l.file l.symbols l.froms l.tos l.initial.pool) (symbols_at l.file l.at) l.used l.limit l.initial.pool l.i l.end l.pool
-
-abbrev pub decreases-loop-i : goal.decreases-loop-i
-decreases-loop-i l = l.n - l.i
