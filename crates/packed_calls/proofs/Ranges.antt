@@ -31,12 +31,9 @@ module _ (f syms froms tos : List ℕ) (used s : ℕ) {from to : ℕ} (v : is_va
   image-within l h =
       variable-within f syms froms tos used s v (both-second (at_most-yes (rw (← a, ← b) l)) (sym (at_most-yes (rw (← b) h))))
 
-  pub image-turned : to < from → false ≡ image_within f syms froms tos used s
-  image-turned l = variable-within f syms froms tos used s v (both_first _ (at_most-no (rw (← a, ← b) l)) refl)
-
-  pub image-past : from ≤ to → used < to → false ≡ image_within f syms froms tos used s
-  image-past l h =
-      variable-within f syms froms tos used s v (both-second (at_most-yes (rw (← a, ← b) l)) (sym (at_most-no (rw (← b) h))))
+  -- its two tests tell
+  pub image-told : both (at_most from to) (at_most to used) ≡ image_within f syms froms tos used s
+  image-told = rw (a, b) (variable-within f syms froms tos used s v refl)
 
 -- where a variable passed, both its tests hold
 passed : (t u w : Bool) → either (no t) (both u w) ≡ true → t ≡ true → (u ≡ true) × (w ≡ true)

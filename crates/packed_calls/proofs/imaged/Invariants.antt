@@ -8,6 +8,3 @@ use Rattle.packed_calls.proofs.imaged.Given as goal
 
 abbrev pub invariant-loop-i : goal.invariant-loop-i
 invariant-loop-i l = PassedTo (image_within l.file l.symbols l.froms l.tos l.used) (symbols_at l.file l.at) l.i
-
-abbrev pub decreases-loop-i : goal.decreases-loop-i
-decreases-loop-i l = l.n - l.i
