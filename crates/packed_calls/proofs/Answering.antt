@@ -1,5 +1,5 @@
 -- How a call is answered: refused, with the pool as it was, or by the number of what was added or compared.
-use Prim.Native.Nat.{ℕ, ◌≤◌, ◌<◌}
+use Prim.Native.Nat.{ℕ, ◌≤◌}
 use mathlib.Core.Path.{◌≡◌, refl, sym, ◌∙◌, ap}
 use mathlib.Core.Bool.{Bool, true, false}
 use mathlib.Core.List.{List}
@@ -7,7 +7,7 @@ use lib.ListN.{length}
 use Rattle.frames.specs.Logic.{both, same}
 use Rattle.frames.proofs.Chains.{pick_first, pick_second, at_most-true}
 use Rattle.frames.proofs.Tells.{true-not-false, both_true}
-use Rattle.packed.specs.Pool.{range, grown, Adds, Untouched, Grown}
+use Rattle.packed.specs.Pool.{range, Adds, Untouched, Grown}
 use Rattle.packed.proofs.Adding.{adds_same}
 use Rattle.packed_calls.specs.Answers.{refused, number_of, truth_of, roomed, lies, compared, Answered, Says, Copies}
 

@@ -1,6 +1,6 @@
 -- The test of the images, symbol by symbol: it passes exactly where each variable has its image (`within-imaged`, `imaged-within`). And the
 -- test as a loop makes it.
-use Prim.Native.Nat.{ℕ, ◌+◌, ◌≤◌, ◌<◌}
+use Prim.Native.Nat.{ℕ, ◌+◌, ◌≤◌}
 use mathlib.Core.Path.{◌≡◌, refl, sym, ◌∙◌, ap}
 use mathlib.Core.Bool.{Bool, true, false}
 use mathlib.Core.List.Memᴰ
@@ -10,7 +10,7 @@ use Rattle.frames.specs.Logic.{at_most, either, both, no, all}
 use Rattle.frames.specs.Layout.{symbols_at}
 use Rattle.frames.specs.Facts.{◌∈◌}
 use Rattle.frames.proofs.Loops.{Here}
-use Rattle.frames.proofs.Chains.{either_first, either_second, both_first, both-second, no-of-true, no-of-false, at_most-yes, at_most-no, at_most-true}
+use Rattle.frames.proofs.Chains.{either_first, either_second, both-second, no-of-true, no-of-false, at_most-yes, at_most-true}
 use Rattle.frames.proofs.Tells.{true-not-false, both_true, all-member}
 use Rattle.packed.specs.Pool.{is_var, Imaged}
 use Rattle.packed_calls.specs.Answers.{image_within, within}

@@ -115,9 +115,7 @@ pub fn packed_substitute(
     if !roomed(used, limit, pool) || !imaged(file, symbols, at, froms, tos, used) {
         return REFUSED;
     }
-    number(substitute::do_substitute(
-        file, symbols, at, froms, tos, pool, used, limit,
-    ))
+    number(substitute::do_substitute(file, symbols, at, froms, tos, pool, used, limit))
 }
 
 // Adds the symbols of a statement as they are.
@@ -155,9 +153,7 @@ pub fn packed_is_substituted(
     if !lies(from, to, pool.len()) || !imaged(file, symbols, at, froms, tos, pool.len()) {
         return REFUSED;
     }
-    truth(compare::do_substitute_eq(
-        file, symbols, at, froms, tos, pool, from, to,
-    ))
+    truth(compare::do_substitute_eq(file, symbols, at, froms, tos, pool, from, to))
 }
 
 // Whether a range is the symbols of a statement as they are.

@@ -1,7 +1,6 @@
 -- `packed_calls::imaged` meets its contract: the loop stops at the first symbol that fails. The invariant: the test of what is left is the test of all
 -- (`PassedTo`).
-use Prim.Native.Nat.{◌-◌}
-use mathlib.Core.Path.{sym, ◌∙◌}
+use mathlib.Core.Path.{sym}
 use native.Mathlib.Omega.{arith}
 use Rattle.frames.specs.Layout.{symbols_at}
 use Rattle.packed.proofs.Symbols.{here-symbol, symbols-length}

@@ -1,6 +1,5 @@
 -- `packed_calls::imaged` meets its contract: the loop stops at the first symbol that fails. The invariant: the test of what is left is the test of all
 -- (`PassedTo`).
-use Prim.Native.Nat.{◌-◌}
 use Rattle.frames.specs.Layout.{symbols_at}
 use Rattle.packed_calls.specs.Answers.{image_within}
 use Rattle.packed_calls.proofs.Ranges.{PassedTo}

@@ -10,8 +10,8 @@ returns-then-not-roomed c =
     let a = c.args in
     let whole = answered-refused (range a.from a.to a.pool.now) a.used a.limit a.pool.now
     (elim c.then-not-roomed.branch [
-      then-not-roomed-via-then-not-roomed w ↦ first-no _ (sym w.if-not-roomed.ensures)
-    | then-not-roomed-via-else-not-roomed+then-not-lies w ↦ second-no _ (sym w.if-not-lies.ensures)
+      | then-not-roomed-via-then-not-roomed w ↦ first-no _ (sym w.if-not-roomed.ensures)
+      | then-not-roomed-via-else-not-roomed+then-not-lies w ↦ second-no _ (sym w.if-not-lies.ensures)
     ]) in
     record { bytes = whole.0; lists = whole.1 }
 

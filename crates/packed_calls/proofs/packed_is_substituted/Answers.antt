@@ -13,8 +13,8 @@ returns-then-not-lies c =
     let a = c.args in
     let whole = compared-refused a.from a.to a.pool.now (substitution a.file.now a.symbols.now a.at a.froms.now a.tos.now a.pool.now)
     (elim c.then-not-lies.branch [
-      then-not-lies-via-then-not-lies w ↦ first-no _ (sym w.if-not-lies.ensures)
-    | then-not-lies-via-else-not-lies+then-not-imaged w ↦ second-no _ (sym w.if-not-imaged.ensures)
+      | then-not-lies-via-then-not-lies w ↦ first-no _ (sym w.if-not-lies.ensures)
+      | then-not-lies-via-else-not-lies+then-not-imaged w ↦ second-no _ (sym w.if-not-imaged.ensures)
     ]) in
     record { bytes = whole.0; lists = whole.1 }
 

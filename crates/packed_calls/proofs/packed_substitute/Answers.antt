@@ -12,8 +12,8 @@ returns-then-not-roomed c =
     let a = c.args in
     let whole = answered-refused (substitution a.file.now a.symbols.now a.at a.froms.now a.tos.now a.pool.now) a.used a.limit a.pool.now
     (elim c.then-not-roomed.branch [
-      then-not-roomed-via-then-not-roomed w ↦ first-no _ (sym w.if-not-roomed.ensures)
-    | then-not-roomed-via-else-not-roomed+then-not-imaged w ↦ second-no _ (sym w.if-not-imaged.ensures)
+      | then-not-roomed-via-then-not-roomed w ↦ first-no _ (sym w.if-not-roomed.ensures)
+      | then-not-roomed-via-else-not-roomed+then-not-imaged w ↦ second-no _ (sym w.if-not-imaged.ensures)
     ]) in
     record { bytes = whole.0; lists = whole.1 }
 
