@@ -14,18 +14,6 @@ use frames::read::u16_at;
 use frames::record::{symbol_count, symbols_from};
 use frames::refer::entry;
 
-// The i-th byte of a name whose last byte is marked.
-fn ended_byte(name: &[u8], i: usize) -> u8
-    requires { i < length name.now }
-    ensures { result ≡ get_or (ended name.now) i 0 }
-{
-    let b = name[i];
-    if i + 1 < name.len() {
-        return b;
-    }
-    128 + b % 128
-}
-
 // Whether the packed name of one byte stands at `at`. Most names are of one byte.
 fn matches_byte(pool: &[u8], at: usize, name: &[u8]) -> bool
     requires { (length name.now ≡ 1) × (at < length pool.now) }
@@ -43,12 +31,11 @@ fn matches_name(pool: &[u8], at: usize, name: &[u8]) -> bool
     if name.len() == 1 {
         return matches_byte(pool, at, name);
     }
-    for i in 0..name.len() {
-        if ended_byte(name, i) != pool[at + i] {
-            return false;
-        }
-    }
-    true
+    let Some((last, front)) = name.split_last() else {
+        return true;
+    };
+    let end = at + front.len();
+    128 + *last % 128 == pool[end] && front == &pool[at..end]
 }
 
 // Whether the n bytes from `from` on stand at `at` too.
@@ -74,7 +61,8 @@ fn meet_name(pool: &[u8], at: usize, to: usize, name: &[u8]) -> Option<usize>
     None
 }
 
-// Meets the bytes from `from` up to `end` in those from `at` up to `to`.
+// Meets the bytes from `from` up to `end` in those from `at` up to `to`. (A twin of `meet_name`: one function would take the test as a
+// closure, and both bodies with its contract are longer than these.)
 fn meet_range(pool: &[u8], at: usize, to: usize, from: usize, end: usize) -> Option<usize>
     requires { ((at ≤ to) × (to ≤ length pool.now)) × ((from ≤ end) × (end ≤ length pool.now)) }
     ensures { result ≡ met (range from end pool.now) at to pool.now }
@@ -142,6 +130,8 @@ pub fn do_substitute_eq(
 }
 
 // Whether the bytes from `from` up to `to` are the symbols of the statement at `at`, its typecode left out, as they are.
+// (A twin of `do_substitute_eq`: one function would take what meets a symbol as a closure, whose contract, with the images that it asks for,
+// is longer than this loop.)
 pub fn raw_eq(file: &[u8], symbols: &[u32], at: u32, pool: &[u8], from: usize, to: usize) -> bool
     requires { (from ≤ to) × (to ≤ length pool.now) }
     ensures bytes { result ≡ same (range from to pool.now) (joined (spelled file.now symbols.now) (drop 1 (symbols_at file.now at))) }

@@ -21,7 +21,8 @@ pub fn image_set(sets: &[u64], s: SymbolNo) -> Bitset
     Bitset::from_table(sets, Bitset::WORDS * s.0)
 }
 
-// Lays the set of the image of symbol s.
+// Lays the set of the image of symbol s. (Four stores, as the definition has them: each past the table's end is left out alone, which the
+// copy of a slice could not do, and a loop over a constant count is no plainer.)
 fn lay_set(sets: &mut [u64], s: SymbolNo, vars: Bitset)
     requires { s.0 < 65536 }
     ensures { sets.new ≡ store_set sets.old s.0 vars.words }

@@ -80,6 +80,8 @@ pub fn do_substitute(
 }
 
 // Adds the symbols of the statement at `at`, its typecode left out, by their own names.
+// (A twin of `do_substitute`: one function would take what adds a symbol as a closure, whose contract, with the images that it asks for and
+// leaves as they are, is longer than this loop.)
 pub fn do_substitute_raw(
     file: &[u8],
     symbols: &[u32],

@@ -15,24 +15,6 @@ loop-j-init c =
     let a = c.args in
     meets-none _ (symbols_at a.file.now a.at) a.pool.now a.from a.to (omega arith) (omega arith)
 
-pub entry-requires : goal.entry-requires
-entry-requires c =
-    let a = c.args in
-    let h = here-symbol a.file.now a.at c.loop-j.j c.symbol_count-n.ensures.0 c.symbols_from-base.ensures.0 c.u16_at.ensures.0 (omega arith) in
-    search rules
-
-pub name-name-requires : goal.name-name-requires
-name-name-requires c =
-    let a = c.args in
-    let h = here-symbol a.file.now a.at c.loop-j.j c.symbol_count-n.ensures.0 c.symbols_from-base.ensures.0 c.u16_at.ensures.0 (omega arith) in
-    search rules
-
-pub meet_name-requires : goal.meet_name-requires
-meet_name-requires c =
-    let a = c.args in
-    let h = here-symbol a.file.now a.at c.loop-j.j c.symbol_count-n.ensures.0 c.symbols_from-base.ensures.0 c.u16_at.ensures.0 (omega arith) in
-    search rules
-
 pub returns-in_default : goal.returns-in_default
 returns-in_default c =
     let whole = raw-lists c.args.file.now c.args.symbols.now c.args.at

@@ -29,18 +29,6 @@ add_piece-requires c =
     let ends = v.ends in
     record { used_le_limit = (v.room, omega arith); imaged = imaged-one c.requires.imaged stands v.low _ (omega arith) }
 
-pub shape_of-pool-in_err-end : goal.shape_of-pool-in_err-end
-shape_of-pool-in_err-end c =
-    let a = c.args in
-    let i = c.loop-i.i in
-    let v = c.loop-i.invariant in
-    let n = symbols-length a.file.now a.at in
-    let count = c.symbol_count-n.ensures.0 in
-    let l : i < length (symbols_at a.file.now a.at) = omega arith in
-    let stands = here-symbol a.file.now a.at i count c.symbols_from-base.ensures.0 c.u16_at.ensures.0 c.loop-i-test.true in
-    let here = here-get_or stands 0 in
-    c.add_piece.ensures.sized ∙ joins-length v
-
 pub returns-in_err-end : goal.returns-in_err-end
 returns-in_err-end c =
     rw c.from_residual.ensures
@@ -70,9 +58,6 @@ loop-i-preserved c =
     let im = imaged-one c.requires.imaged stands v.low a.used (omega arith) in
     let kept = piece-kept a.file.now a.symbols.now a.froms.now a.tos.now _ a.pool.now _ a.used _ im (omega arith) v.is in
     joins-more v l here kept (rw c.in_ok-end.was at c.add_piece.ensures)
-
-pub shape_of-pool : goal.shape_of-pool
-shape_of-pool c = joins-length c.loop-i.invariant
 
 pub returns : goal.returns
 returns c =
