@@ -60,7 +60,13 @@ pub fn add_name(pool: &mut [u8], used: usize, limit: usize, name: &[u8]) -> Opti
 }
 
 // Adds a copy of the bytes from `from` up to `to`, which are in use, to the pool: how far it is used then, or none where there is no room.
-pub fn add_range(pool: &mut [u8], used: usize, limit: usize, from: usize, to: usize) -> Option<usize>
+pub fn add_range(
+    pool: &mut [u8],
+    used: usize,
+    limit: usize,
+    from: usize,
+    to: usize,
+) -> Option<usize>
     requires { ((from ≤ to) × (to ≤ used)) × ((used ≤ limit) × (limit ≤ length pool.old)) }
     ensures adds { Adds (range from to pool.old) used limit pool.old pool.new result }
     ensures full { Untouched pool.old pool.new result }

@@ -1,5 +1,4 @@
 -- `verdict_text::append` meets its contract: the part stands at its place (`take-put_mid`).
-use mathlib.Core.Path.{◌∙◌, ap}
 use native.Mathlib.Omega.{arith}
 use borrow.Author.Rules.{rules}
 use Prim.Native.Nat.{◌+◌, ◌-◌}

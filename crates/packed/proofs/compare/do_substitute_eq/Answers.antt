@@ -1,6 +1,5 @@
 -- `packed::compare::do_substitute_eq` meets its contract: the symbols are met one after another (`Meets`), and at the end nothing is left.
 use Rattle.packed.proofs.Lists.{compares-lists}
-use Prim.Native.Nat.{◌-◌}
 use Rattle.frames.specs.Layout.{symbols_at}
 use Rattle.frames.specs.Logic.{equal}
 use Rattle.packed.proofs.Comparing.{meets-done, meets-more, meets-none, meets-stop}

@@ -1,5 +1,4 @@
 -- `packed::compare::do_substitute_eq` meets its contract: the symbols are met one after another (`Meets`), and at the end nothing is left.
-use Prim.Native.Nat.{◌-◌}
 use Rattle.frames.specs.Layout.{symbols_at}
 use Rattle.packed.proofs.Comparing.{Meets}
 use Rattle.packed.specs.Pool.{piece}

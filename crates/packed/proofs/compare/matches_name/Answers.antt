@@ -1,6 +1,6 @@
 -- `packed::compare::matches_name` meets its contract: one byte is compared, or the last one, marked, and those before it (`same-ended`).
-use mathlib.Core.Path.{◌∙◌, ap, refl}
-use Rattle.frames.specs.Logic.{equal, both}
+use mathlib.Core.Path.{◌∙◌}
+use Rattle.frames.specs.Logic.{equal}
 use Rattle.frames.proofs.Chains.{both_first, both-second, equal-yes, equal-no}
 use Rattle.frames.proofs.Words.{pointwise-same}
 use Rattle.packed.specs.Pool.{range}

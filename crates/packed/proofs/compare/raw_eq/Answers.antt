@@ -1,11 +1,9 @@
 -- `packed::compare::raw_eq` meets its contract: the symbols are met one after another (`Meets`), and at the end nothing is left.
 use Rattle.packed.proofs.Lists.{raw-lists}
-use Prim.Native.Nat.{◌-◌}
 use Rattle.frames.specs.Layout.{symbols_at}
 use Rattle.frames.specs.Logic.{equal}
 use Rattle.packed.proofs.Comparing.{meets-done, meets-more, meets-none, meets-stop, met-spelled}
 use Rattle.packed.proofs.Symbols.{here-symbol, symbols-length}
-use borrow.Author.Rules.{rules}
 use mathlib.Core.Path.{◌∙◌, sym}
 use native.Mathlib.Omega.{arith}
 use Rattle.packed.proofs.compare.raw_eq.Goals as goal

@@ -1,5 +1,4 @@
 -- `packed::images::do_substitute_vars` meets its contract: what was gathered and what the rest has is what all have (`GatheredTo`).
-use Prim.Native.Nat.{◌-◌}
 use Rattle.frames.specs.Layout.{symbols_at}
 use Rattle.packed.proofs.Imaging.{GatheredTo}
 use Rattle.packed.proofs.images.do_substitute_vars.Given as goal

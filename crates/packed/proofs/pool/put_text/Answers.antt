@@ -1,5 +1,4 @@
 -- `packed::pool::put_text` meets its contract: what stands before the text, the text, and what stands behind it.
-use mathlib.Core.Path.{◌∙◌, ap}
 use native.Mathlib.Omega.{arith}
 use Rattle.packed.proofs.Written.{copied_in}
 use Rattle.packed.proofs.pool.put_text.Goals as goal

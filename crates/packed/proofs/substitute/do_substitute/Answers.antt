@@ -1,6 +1,6 @@
 -- `packed::substitute::do_substitute` meets its contract: after i symbols the pool has the pieces of those before the i-th (`Joins`); writing them leaves the images alone (`piece-kept`).
 use Rattle.packed.proofs.Lists.{substitutes-lists}
-use Prim.Native.Nat.{◌-◌, ◌<◌}
+use Prim.Native.Nat.{◌<◌}
 use Rattle.frames.specs.Layout.{symbols_at}
 use Rattle.packed.proofs.Joining.{joins-done, joins-full, joins-length, joins-more, joins-none}
 use Rattle.packed.proofs.Pieces.{piece-kept}
@@ -8,7 +8,6 @@ use Rattle.packed.proofs.Symbols.{here-symbol, imaged-one, symbols-length}
 use Rattle.frames.proofs.Loops.{here-get_or}
 use Rattle.packed.specs.Pool.{piece}
 use lib.ListN.{length}
-use mathlib.Core.Path.{◌∙◌}
 use native.Mathlib.Omega.{arith}
 use Rattle.packed.proofs.substitute.do_substitute.Goals as goal
 

@@ -1,5 +1,4 @@
 -- `packed::substitute::do_substitute` meets its contract: after i symbols the pool has the pieces of those before the i-th (`Joins`); writing them leaves the images alone (`piece-kept`).
-use Prim.Native.Nat.{◌-◌}
 use Rattle.frames.specs.Layout.{symbols_at}
 use Rattle.packed.proofs.Joining.{Joins}
 use Rattle.packed.specs.Pool.{piece}

@@ -1,13 +1,13 @@
 -- `packed::substitute::do_substitute_raw` meets its contract: after i symbols the pool has the names of those before the i-th (`Joins`).
 use Rattle.packed.proofs.Lists.{spells-lists}
-use Prim.Native.Nat.{◌-◌, ◌<◌}
+use Prim.Native.Nat.{◌<◌}
 use Rattle.frames.specs.Layout.{symbols_at}
-use Rattle.packed.proofs.Joining.{joins-done, joins-full, joins-length, joins-more, joins-none}
+use Rattle.packed.proofs.Joining.{joins-done, joins-full, joins-more, joins-none}
 use Rattle.packed.proofs.Symbols.{here-symbol, symbols-length}
 use Rattle.frames.proofs.Loops.{here-get_or}
 use Rattle.packed.specs.Pool.{spelled}
 use lib.ListN.{length}
-use mathlib.Core.Path.{◌∙◌, refl}
+use mathlib.Core.Path.{refl}
 use native.Mathlib.Omega.{arith}
 use Rattle.packed.proofs.substitute.do_substitute_raw.Goals as goal
 

@@ -1,5 +1,4 @@
 -- `packed::substitute::do_substitute_raw` meets its contract: after i symbols the pool has the names of those before the i-th (`Joins`).
-use Prim.Native.Nat.{◌-◌}
 use Rattle.frames.specs.Layout.{symbols_at}
 use Rattle.packed.proofs.Joining.{Joins}
 use Rattle.packed.specs.Pool.{spelled}
