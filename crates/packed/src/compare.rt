@@ -1,6 +1,6 @@
 // A port of parts of src/verify.rs of metamath-rs 0.3.9 (do_substitute_eq), changed (see NOTICE).
 // Comparing with the pool: a name, a copy within the pool, and the symbols of a statement, substituted or as they are, in one pass.
-ghost use Rattle.std.specs.Prelude.{◌≡◌, [], ◌∷◌, ◌+◌, ◌≤◌, ◌<◌, length, get_or, drop};
+ghost use Rattle.std.specs.Prelude.{◌≡◌, [], ◌∷◌, ◌+◌, ◌≤◌, ◌<◌, length, drop};
 ghost use Rattle.frames.specs.Logic.{same};
 ghost use Rattle.frames.specs.Layout.{symbols_at};
 ghost use Rattle.packed.specs.Packing.{ended};

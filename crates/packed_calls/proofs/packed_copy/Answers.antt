@@ -1,5 +1,6 @@
 -- `packed_calls::packed_copy` meets its contract: the tests are those of the ranges, and `add_range` adds the bytes.
 use mathlib.Core.Path.{sym}
+use native.Mathlib.Omega.{arith}
 use Rattle.packed.specs.Pool.{range}
 use Rattle.packed_calls.proofs.Answering.{answered-refused, answered-added, copies, both_yes, first-no, second-no, roomed-known, lies-known}
 use Rattle.packed_calls.proofs.packed_copy.Goals as goal
@@ -16,7 +17,10 @@ returns-then-not-roomed c =
     record { bytes = whole.0; lists = whole.1 }
 
 pub add_range-requires : goal.add_range-requires
-add_range-requires c = (lies-known c.if-not-lies.ensures, roomed-known c.args.pool.now c.if-not-roomed.ensures)
+add_range-requires c =
+    let ends = lies-known c.if-not-lies.ensures in
+    let room = roomed-known c.args.pool.now c.if-not-roomed.ensures in
+    ((omega (arith, ends.0), omega (arith, ends.1)), room)
 
 pub returns : goal.returns
 returns c =
