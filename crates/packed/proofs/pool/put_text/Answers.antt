@@ -1,7 +1,16 @@
--- `packed::pool::put_text` meets its contract: what stands before the text, the text, and what stands behind it.
+-- `packed::pool::put_text` meets its contract: after i bytes the pool has the first i bytes of the text (`Copied`).
+use Rattle.packed.proofs.Copies.{copied_all, copied-length, copied_more, copied_none}
 use native.Mathlib.Omega.{arith}
-use Rattle.packed.proofs.Written.{copied_in}
 use Rattle.packed.proofs.pool.put_text.Goals as goal
 
+pub loop-i-init : goal.loop-i-init
+loop-i-init c = let a = c.args in copied_none a.text.now a.at a.pool.now c.requires
+
+pub bounds-pool-at : goal.bounds-pool-at
+bounds-pool-at c = let v = c.loop-i.invariant in omega (arith, copied-length v, v.fits)
+
+pub loop-i-preserved : goal.loop-i-preserved
+loop-i-preserved c = copied_more c.loop-i.invariant _ (omega arith) (cc)
+
 pub returns : goal.returns
-returns c = rw c.copy_from_slice.ensures.after (copied_in _ c.args.at _ c.args.pool.now (omega arith))
+returns c = copied_all c.loop-i.invariant (omega arith)
