@@ -1,4 +1,5 @@
 -- Marks and labels as the code reads them, and what the searches among the rows find in the list of entries.
+use Rattle.std.proofs.Common.{Some, None, Ok, Err}
 use Prim.Native.Nat.{ℕ, zero, suc, ◌+◌, ◌-◌, ◌≤◌, ◌<◌}
 use mathlib.Core.Path.{◌≡◌, refl, sym, ap, ◌∙◌}
 use mathlib.Core.Bool.{true, false}
@@ -12,10 +13,12 @@ use Rattle.frames.specs.Database.{statement_at}
 use Rattle.frames.proofs.Chains.{pick_first, pick_second}
 use Rattle.frames.proofs.Loops.{Here, here-list}
 use Rattle.machine.specs.Memory.{Entry}
-use Rattle.machine.specs.Apply.{is_marked, marked}
+use Rattle.machine.specs.Apply.{names, is_marked, marked}
 use Rattle.packed.specs.Pool.{range}
 use Rattle.memory.specs.Shown.{Along, ends, next, mark_of}
-use Rattle.seats.specs.Marks.{row_mark, label_at, labels_at, FirstMarked, FirstUnmarked}
+use Rattle.machine.specs.declared.Refusal.TheVariants.{DuplicateExplicitLabel}
+use Rattle.seats.specs.declared.arrange.Taken.{Taken}
+use Rattle.seats.specs.Marks.{row_mark, label_at, labels_at, FirstMarked, marked_nowhere, marked_at, FirstUnmarked, all_marked, unmarked_at, Checks, once, twice, by_mark, in_order, none_left, TakesSeat}
 use Rattle.seats.specs.Seats.{MarkShown, Nth, first, later}
 
 -- a row with the tag 0 has no mark, any other has a part of the text
@@ -112,15 +115,32 @@ module _ {text stack : List ℕ} (label : List ℕ) where
       sym (pick_second _ (ap (is_marked label) (sym shown.is) ∙ passed b (omega arith) (omega arith))
       (sym (marked-nowhere more (λ r l h. passed r (omega arith) (omega arith)))))
 
--- a search that ends at `to` found none
-pub marked-past : {text stack label : List ℕ} {from to k : ℕ} → FirstMarked text stack label from to k → to ≤ k → FirstMarked text stack label from to to
-marked-past f h =
-    let low = f.low in
-    let high = f.high in
-    record { low = omega arith; high = omega arith; passed = λ r g l. f.passed r g (omega arith); found = λ l. absurd (omega arith) }
+-- a row that a search found is one of those that it went over
+marked-within : {text stack label : List ℕ} {from to k : ℕ} → FirstMarked text stack label from to (Some k) → (from ≤ k) × (k < to)
+marked-within (marked_at low high passed found) = (low, high)
 
-pub unmarked-past : {stack : List ℕ} {from to k : ℕ} → FirstUnmarked stack from to k → to ≤ k → FirstUnmarked stack from to to
-unmarked-past f h =
-    let low = f.low in
-    let high = f.high in
-    record { low = omega arith; high = omega arith; passed = λ r g l. f.passed r g (omega arith); found = λ l. absurd (omega arith) }
+unmarked-within : {stack : List ℕ} {from to k : ℕ} → FirstUnmarked stack from to (Some k) → (from ≤ k) × (k < to)
+unmarked-within (unmarked_at low high passed found) = (low, high)
+
+-- a mark that names a hypothesis, as the rows below have it or not
+module _ {labels : List (List ℕ)} {text stack : List ℕ} {base k : ℕ} {m : List ℕ} (is : row_mark text stack k ≡ some m) (known : names labels m ≡ true) where
+  pub checked-twice : {r : ℕ} → FirstMarked text stack m base k (Some r) → Checks labels text stack base k (Err DuplicateExplicitLabel)
+  checked-twice (marked_at low high passed found) = twice is known low high found
+
+  pub checked-once : FirstMarked text stack m base k None → Checks labels text stack base k (Ok tt)
+  checked-once (marked_nowhere passed) = once is known passed
+
+-- the three ways to take a seat
+module _ {text stack label : List ℕ} {base to next : ℕ} (low : base ≤ next) (high : next ≤ to) where
+  pub takes-marked : {row : ℕ} → FirstMarked text stack label base to (Some row) → TakesSeat text stack base to next label (record { row = row; next = next })
+  takes-marked m = let w = marked-within m in record { low = w.0; high = w.1; next_low = low; next_high = high; takes = by_mark m refl }
+
+  pub takes-next : {row : ℕ} → FirstMarked text stack label base to None → FirstUnmarked stack next to (Some row)
+      → TakesSeat text stack base to next label (record { row = row; next = row + 1 })
+  takes-next m g =
+      let w = unmarked-within g in
+      record { low = omega arith; high = w.1; next_low = omega arith; next_high = omega arith; takes = in_order m g refl }
+
+  pub takes-none : base < to → FirstMarked text stack label base to None → FirstUnmarked stack next to None
+      → TakesSeat text stack base to next label (record { row = base; next = to })
+  takes-none room m g = record { low = omega arith; high = room; next_low = omega arith; next_high = omega arith; takes = none_left m g }

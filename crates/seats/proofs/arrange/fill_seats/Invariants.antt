@@ -8,6 +8,3 @@ use Rattle.seats.proofs.arrange.fill_seats.Given as goal
 
 abbrev pub invariant-loop-j : goal.invariant-loop-j
 invariant-loop-j l = ((l.j ≤ l.count) × (length l.seats ≡ length l.initial.seats)) × FillingAll (labels_at l.file l.statements l.at) l.text l.stack l.base l.count l.j l.next l.seats
-
-abbrev pub decreases-loop-j : goal.decreases-loop-j
-decreases-loop-j l = l.count - l.j

@@ -8,6 +8,3 @@ use Rattle.seats.proofs.arrange.seat_in_order.Given as goal
 
 abbrev pub invariant-loop-j : goal.invariant-loop-j
 invariant-loop-j l = ((l.j ≤ l.count) × (length l.seats ≡ length l.initial.seats)) × InOrder l.j l.seats
-
-abbrev pub decreases-loop-j : goal.decreases-loop-j
-decreases-loop-j l = l.count - l.j

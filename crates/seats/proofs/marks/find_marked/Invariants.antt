@@ -1,5 +1,5 @@
 -- `seats::marks::find_marked` meets its contract: the rows so far have another mark or none.
-use Prim.Native.Nat.{ℕ, ◌-◌, ◌≤◌, ◌<◌}
+use Prim.Native.Nat.{ℕ, ◌≤◌, ◌<◌}
 use mathlib.Core.Path.{◌≡◌}
 use mathlib.Core.Bool.{false}
 use Rattle.machine.specs.Apply.{is_marked}
@@ -7,7 +7,4 @@ use Rattle.seats.specs.Marks.{row_mark}
 use Rattle.seats.proofs.marks.find_marked.Given as goal
 
 abbrev pub invariant-loop-k : goal.invariant-loop-k
-invariant-loop-k l = ((l.from ≤ l.k) × (l.k ≤ l.to)) × ((r : ℕ) → l.from ≤ r → r < l.k → is_marked l.label (row_mark l.text l.stack r) ≡ false)
-
-abbrev pub decreases-loop-k : goal.decreases-loop-k
-decreases-loop-k l = l.to - l.k
+invariant-loop-k l = (r : ℕ) → l.from ≤ r → r < l.k → is_marked l.label (row_mark l.text l.stack r) ≡ false

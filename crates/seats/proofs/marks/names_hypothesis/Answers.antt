@@ -1,5 +1,4 @@
 -- `seats::marks::names_hypothesis` meets its contract: no label so far is the mark (`AnySoFar`).
-use Prim.Native.Nat.{◌-◌}
 use mathlib.Core.Path.{sym, ◌∙◌}
 use Rattle.frames.proofs.Loops.{any_none, any-more, any-stop, any-done}
 use Rattle.machine.specs.Apply.{names}
@@ -8,15 +7,15 @@ use native.Mathlib.Omega.{arith}
 use Rattle.seats.proofs.marks.names_hypothesis.Goals as goal
 
 pub loop-i-init : goal.loop-i-init
-loop-i-init c = (omega arith, any_none _ _)
+loop-i-init c = any_none _ _
 
 pub returns-then-same_bytes : goal.returns-then-same_bytes
 unfolding names
-returns-then-same_bytes c = any-stop c.loop-i.invariant.1 (here_label _ _ _ _ (omega arith) c.hypothesis_offset-o.ensures c.label.ensures) (sym c.same_bytes.ensures ∙ c.if-same_bytes.true)
+returns-then-same_bytes c = any-stop c.loop-i.invariant (here_label _ _ _ _ (omega arith) c.hypothesis_offset-o.ensures c.label.ensures) (sym c.same_bytes.ensures ∙ c.if-same_bytes.true)
 
 pub loop-i-preserved : goal.loop-i-preserved
-loop-i-preserved c = (omega arith, any-more c.loop-i.invariant.1 (here_label _ _ _ _ (omega arith) c.hypothesis_offset-o.ensures c.label.ensures) (sym c.same_bytes.ensures ∙ c.if-same_bytes.false))
+loop-i-preserved c = any-more c.loop-i.invariant (here_label _ _ _ _ (omega arith) c.hypothesis_offset-o.ensures c.label.ensures) (sym c.same_bytes.ensures ∙ c.if-same_bytes.false)
 
 pub returns : goal.returns
 unfolding names
-returns c = any-done c.loop-i.invariant.1 (omega (arith, labels_length c.args.file.now c.args.statements.now c.args.at))
+returns c = any-done c.loop-i.invariant (omega (arith, labels_length c.args.file.now c.args.statements.now c.args.at))

@@ -1,14 +1,8 @@
 -- `seats::marks::names_hypothesis` meets its contract: no label so far is the mark (`AnySoFar`).
-use Prim.Native.Nat.{◌-◌, ◌≤◌}
-use lib.ListN.{length}
 use Rattle.frames.specs.Logic.{same}
-use Rattle.frames.specs.Database.{statement_at}
 use Rattle.frames.proofs.Loops.{AnySoFar}
 use Rattle.seats.specs.Marks.{labels_at}
 use Rattle.seats.proofs.marks.names_hypothesis.Given as goal
 
 abbrev pub invariant-loop-i : goal.invariant-loop-i
-invariant-loop-i l = (l.i ≤ length (statement_at l.file l.at).hyps) × AnySoFar (same l.mark) (labels_at l.file l.statements l.at) l.i
-
-abbrev pub decreases-loop-i : goal.decreases-loop-i
-decreases-loop-i l = length (statement_at l.file l.at).hyps - l.i
+invariant-loop-i l = AnySoFar (same l.mark) (labels_at l.file l.statements l.at) l.i

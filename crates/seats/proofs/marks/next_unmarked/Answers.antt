@@ -1,21 +1,18 @@
 -- `seats::marks::next_unmarked` meets its contract: the rows so far have a mark.
-use Prim.Native.Nat.{◌-◌}
 use mathlib.Core.Path.{sym, ◌∙◌}
 use Rattle.memory.specs.Table.{word}
+use Rattle.seats.specs.Marks.{all_marked, unmarked_at}
 use Rattle.seats.proofs.Marking.{rows_more}
 use native.Mathlib.Omega.{arith}
 use Rattle.seats.proofs.marks.next_unmarked.Goals as goal
 
-pub loop-k-init : goal.loop-k-init
-loop-k-init c = (omega arith, λ r l h. absurd (omega arith))
-
-pub returns-then-word_at-eq0 : goal.returns-then-word_at-eq0
+pub returns-then-entry_or-eq0 : goal.returns-then-entry_or-eq0
 unfolding word
-returns-then-word_at-eq0 c = let v = c.loop-k.invariant in record { low = v.0.0; high = v.0.1; passed = v.1; found = λ h. sym c.word_at.ensures ∙ c.if-word_at-eq0.true }
+returns-then-entry_or-eq0 c = unmarked_at (omega arith) (omega arith) c.loop-k.invariant (sym c.entry_or.ensures ∙ c.if-entry_or-eq0.true)
 
 pub loop-k-preserved : goal.loop-k-preserved
 unfolding word
-loop-k-preserved c = (omega arith, rows_more _ _ c.loop-k.invariant.1 (λ e. c.if-word_at-eq0.false (c.word_at.ensures ∙ e)))
+loop-k-preserved c = rows_more _ _ c.loop-k.invariant (λ e. c.if-entry_or-eq0.false (c.entry_or.ensures ∙ e))
 
 pub returns : goal.returns
-returns c = let v = c.loop-k.invariant in record { low = v.0.0; high = v.0.1; passed = v.1; found = λ h. absurd (omega arith) }
+returns c = all_marked (λ r low high. c.loop-k.invariant r low (omega arith))

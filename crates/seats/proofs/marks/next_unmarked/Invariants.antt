@@ -1,11 +1,8 @@
 -- `seats::marks::next_unmarked` meets its contract: the rows so far have a mark.
-use Prim.Native.Nat.{ℕ, ◌-◌, ◌≤◌, ◌<◌}
+use Prim.Native.Nat.{ℕ, ◌≤◌, ◌<◌}
 use mathlib.Core.Path.{◌≡◌}
 use Rattle.memory.specs.Table.{word}
 use Rattle.seats.proofs.marks.next_unmarked.Given as goal
 
 abbrev pub invariant-loop-k : goal.invariant-loop-k
-invariant-loop-k l = ((l.from ≤ l.k) × (l.k ≤ l.to)) × ((r : ℕ) → l.from ≤ r → r < l.k → word l.stack r 3 ≡ 0 → ⊥)
-
-abbrev pub decreases-loop-k : goal.decreases-loop-k
-decreases-loop-k l = l.to - l.k
+invariant-loop-k l = (r : ℕ) → l.from ≤ r → r < l.k → word l.stack r 3 ≡ 0 → ⊥
