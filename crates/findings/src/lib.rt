@@ -7,6 +7,7 @@ ghost use Rattle.findings.specs.Tells.{ChecksMode, answer_of, Closes};
 
 use ends::end::check_end;
 use machine::Refusal;
+use frames::refer::entry_or;
 use memory::Counts;
 use run::Mode;
 use run_bytes::Stopped;

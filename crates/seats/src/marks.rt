@@ -39,12 +39,11 @@ pub fn find_marked(text: &[u8], stack: &[u64], from: usize, to: usize, label: &[
     requires { (from ≤ to) × (to < 70000) }
     ensures { FirstMarked text.now stack.now label.now from to result }
 {
-    for k in from..to {
-        if is_marked(text, stack, k, label) {
-            return Some(k);
-        }
-    }
-    None
+    (from..to).find(
+        |&k|
+            requires { k < 70000 }
+        { is_marked(text, stack, k, label) },
+    )
 }
 
 // The first row from `from` on without a mark, where one before `to` has none.
@@ -52,12 +51,11 @@ pub fn next_unmarked(stack: &[u64], from: usize, to: usize) -> Option<usize>
     requires { (from ≤ to) × (to < 70000) }
     ensures { FirstUnmarked stack.now from to result }
 {
-    for k in from..to {
-        if entry_or(stack, 10 * k + 3, 0) == 0 {
-            return Some(k);
-        }
-    }
-    None
+    (from..to).find(
+        |&k|
+            requires { k < 70000 }
+        { entry_or(stack, 10 * k + 3, 0) == 0 },
+    )
 }
 
 // Whether no row from `from` up to `to` has a mark.
@@ -65,12 +63,11 @@ pub fn none_marked(stack: &[u64], from: usize, to: usize) -> bool
     requires { (from ≤ to) × (to < 70000) }
     ensures { NoneMarked stack.now from to result }
 {
-    for k in from..to {
-        if entry_or(stack, 10 * k + 3, 0) != 0 {
-            return false;
-        }
-    }
-    true
+    (from..to).all(
+        |k|
+            requires { k < 70000 }
+        { entry_or(stack, 10 * k + 3, 0) == 0 },
+    )
 }
 
 // Where the record of the i-th hypothesis of the statement at `at` lies.
@@ -85,13 +82,10 @@ pub fn hypothesis_offset(file: &[u8], statements: &[u32], at: u32, i: usize) -> 
 fn names_hypothesis(file: &[u8], statements: &[u32], at: u32, mark: &[u8]) -> bool
     ensures { result ≡ names (labels_at file.now statements.now at) mark.now }
 {
-    for i in 0..fields::hypotheses(file, at) {
+    (0..fields::hypotheses(file, at)).any(|i| {
         let o = hypothesis_offset(file, statements, at, i);
-        if same_bytes(mark, fields::label(file, o)) {
-            return true;
-        }
-    }
-    false
+        same_bytes(mark, fields::label(file, o))
+    })
 }
 
 // The mark of row k: 33 where it names no hypothesis, 34 where a row from `base` on has it already.

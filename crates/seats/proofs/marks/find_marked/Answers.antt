@@ -1,15 +1,18 @@
--- `seats::marks::find_marked` meets its contract: the rows so far have another mark or none.
-use mathlib.Core.Path.{sym, ◌∙◌}
-use Rattle.seats.specs.Marks.{marked_nowhere, marked_at}
-use Rattle.seats.proofs.Marking.{rows_more}
-use native.Mathlib.Omega.{arith}
+-- `seats::marks::find_marked` meets its contract: the search over the rows is the library's.
+use mathlib.Core.Path.{◌≡◌, sym, ◌∙◌}
+use mathlib.Core.Bool.{true, false}
+use Rattle.std.proofs.Common.{rules, tests, arith}
+use Rattle.std.proofs.lemmas.Iterator.{first_from_Range}
+use Rattle.machine.specs.Apply.{is_marked}
+use Rattle.seats.specs.Marks.{row_mark}
+use Rattle.seats.proofs.Marking.{first-marked}
 use Rattle.seats.proofs.marks.find_marked.Goals as goal
 
-pub returns-then-is_marked : goal.returns-then-is_marked
-returns-then-is_marked c = marked_at (omega arith) (omega arith) c.loop-k.invariant (sym c.is_marked.ensures ∙ c.if-is_marked.true)
-
-pub loop-k-preserved : goal.loop-k-preserved
-loop-k-preserved c = rows_more _ _ c.loop-k.invariant (sym c.is_marked.ensures ∙ c.if-is_marked.false)
-
 pub returns : goal.returns
-returns c = marked_nowhere (λ r low high. c.loop-k.invariant r low (omega arith))
+returns c =
+    let a = c.args in
+    first-marked
+    (first_from_Range _ _ _ _ (λ k. is_marked a.label.now (row_mark a.text.now a.stack.now k) ≡ true)
+    (λ k. is_marked a.label.now (row_mark a.text.now a.stack.now k) ≡ false) c.find.ensures.ran
+    (λ x q k. search rules)
+    (λ x q k. (search rules, search rules)))

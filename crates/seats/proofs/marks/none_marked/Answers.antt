@@ -1,17 +1,17 @@
--- `seats::marks::none_marked` meets its contract: the rows so far have no mark.
-use Prim.Native.Nat.{ℕ}
-use mathlib.Core.Path.{◌≡◌, sym, ◌∙◌}
+-- `seats::marks::none_marked` meets its contract: every row of the range is without a mark (`all-rows`).
+use mathlib.Core.Path.{◌≡◌, refl}
+use mathlib.Core.Bool.{true}
+use Rattle.std.proofs.Common.{rules, tests, arith}
+use Rattle.std.proofs.lemmas.Iterator.{cases_from_all, YieldsList-from_range}
 use Rattle.memory.specs.Table.{word}
-use Rattle.seats.proofs.Marking.{rows_more}
-use native.Mathlib.Omega.{arith}
+use Rattle.seats.proofs.Marking.{none-told}
 use Rattle.seats.proofs.marks.none_marked.Goals as goal
 
-pub returns-then-entry_or-ne0 : goal.returns-then-entry_or-ne0
-returns-then-entry_or-ne0 c = record { none = λ e. let z : ◌≡◌ {A = ℕ} 0 1 = cc in absurd (omega arith) }
-
-pub loop-k-preserved : goal.loop-k-preserved
-unfolding word
-loop-k-preserved c = rows_more _ _ c.loop-k.invariant (sym c.entry_or.ensures ∙ c.if-entry_or-ne0.false)
-
 pub returns : goal.returns
-returns c = record { none = λ e r low high. c.loop-k.invariant r low (omega arith) }
+unfolding word
+returns c =
+    let a = c.args in
+    none-told a.stack.now a.from a.to _
+    (cases_from_all _ _ _ (λ k. word a.stack.now k 3 ≡ 0) (λ k. Unit {0}) c.all.ensures.ran (YieldsList-from_range a.from a.to _ refl refl)
+    (λ x q k. (search rules, grind (arith, tests)))
+    (λ x q k. tt))
