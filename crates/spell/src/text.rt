@@ -54,6 +54,7 @@ fn write_pending(
     requires { (depth ≤ length pending.old) × (size ≤ length out.old) }
     ensures { WritesPending file.now tree.now pending.old depth size out.old out.new }
 {
+    // A stack: each turn takes its top and puts the words below that one, so no range or slice is walked.
     let mut left = depth;
     let mut end = size + 1;
     while 0 < end {
