@@ -6,8 +6,8 @@ ghost use Rattle.std.specs.Prelude.{◌≡◌};
 ghost use Rattle.findings.specs.Tells.{ChecksMode, answer_of, Closes};
 
 use ends::end::check_end;
-use machine::Refusal;
 use frames::refer::entry_or;
+use machine::Refusal;
 use memory::Counts;
 use run::Mode;
 use run_bytes::Stopped;

@@ -21,7 +21,6 @@ use Rattle.packed.specs.Pool.{range}
 use Rattle.memory.specs.Table.{word}
 use Rattle.memory.specs.Shown.{Along, ends, next, mark_of}
 use Rattle.machine.specs.declared.Refusal.TheVariants.{DuplicateExplicitLabel}
-use Rattle.seats.specs.declared.arrange.Taken.{Taken}
 use Rattle.seats.specs.Marks.{row_mark, label_at, labels_at, FirstMarked, marked_nowhere, marked_at, FirstUnmarked, all_marked, unmarked_at, NoneMarked, Checks, once, twice, by_mark, in_order, none_left, TakesSeat}
 use Rattle.seats.specs.Seats.{MarkShown, Nth, first, later}
 
@@ -122,14 +121,14 @@ module _ {text stack : List ℕ} (label : List ℕ) where
 -- what the library says of a search
 pub first-marked : {text stack label : List ℕ} {from to : ℕ} {r : std.Option ℕ}
     → MatchOption r ((k : ℕ) → from ≤ k → k < to → is_marked label (row_mark text stack k) ≡ false)
-      (λ i. (from ≤ i) × (i < to) × (is_marked label (row_mark text stack i) ≡ true) × ((k : ℕ) → from ≤ k → k < i → is_marked label (row_mark text stack k) ≡ false))
+    (λ i. (from ≤ i) × (i < to) × (is_marked label (row_mark text stack i) ≡ true) × ((k : ℕ) → from ≤ k → k < i → is_marked label (row_mark text stack k) ≡ false))
     → FirstMarked text stack label from to r
 first-marked {r = None} f = marked_nowhere f
 first-marked {r = Some i} f = marked_at f.0 f.1 f.3 f.2
 
 pub first-unmarked : {stack : List ℕ} {from to : ℕ} {r : std.Option ℕ}
     → MatchOption r ((k : ℕ) → from ≤ k → k < to → word stack k 3 ≡ 0 → ⊥)
-      (λ i. (from ≤ i) × (i < to) × (word stack i 3 ≡ 0) × ((k : ℕ) → from ≤ k → k < i → word stack k 3 ≡ 0 → ⊥))
+    (λ i. (from ≤ i) × (i < to) × (word stack i 3 ≡ 0) × ((k : ℕ) → from ≤ k → k < i → word stack k 3 ≡ 0 → ⊥))
     → FirstUnmarked stack from to r
 first-unmarked {r = None} f = all_marked f
 first-unmarked {r = Some i} f = unmarked_at f.0 f.1 f.3 f.2
@@ -140,7 +139,7 @@ at-row from to k d l = get_or-range_with_len from (to - from) k d l
 
 pub none-told : (stack : List ℕ) (from to : ℕ) (r : Bool)
     → MatchBool r (AllWithin (λ k. word stack k 3 ≡ 0) (range_with_len from (to - from)) 0 (length (range_with_len from (to - from))))
-      ((k : ℕ) × (k < length (range_with_len from (to - from))) × HoldsAt (λ k. Unit {0}) (range_with_len from (to - from)) k)
+    ((k : ℕ) × (k < length (range_with_len from (to - from))) × HoldsAt (λ k. Unit {0}) (range_with_len from (to - from)) k)
     → NoneMarked stack from to r
 none-told stack from to true f =
     let size = length-range_with_len from (to - from) in

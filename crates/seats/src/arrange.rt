@@ -23,7 +23,10 @@ fn take_seat(text: &[u8], stack: &[u64], base: usize, to: usize, next: usize, la
         Some(row) => Taken { row, next },
         None => match next_unmarked(stack, next, to) {
             Some(row) => Taken { row, next: row + 1 },
-            None => Taken { row: base, next: to },
+            None => Taken {
+                row: base,
+                next: to,
+            },
         },
     }
 }

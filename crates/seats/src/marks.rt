@@ -35,7 +35,13 @@ fn is_marked(text: &[u8], stack: &[u64], k: usize, label: &[u8]) -> bool
 }
 
 // The first row from `from` on that has this mark, where one before `to` has.
-pub fn find_marked(text: &[u8], stack: &[u64], from: usize, to: usize, label: &[u8]) -> Option<usize>
+pub fn find_marked(
+    text: &[u8],
+    stack: &[u64],
+    from: usize,
+    to: usize,
+    label: &[u8],
+) -> Option<usize>
     requires { (from ≤ to) × (to < 70000) }
     ensures { FirstMarked text.now stack.now label.now from to result }
 {

@@ -1,5 +1,4 @@
 use native.Mathlib.Omega.{arith}
-use Prim.Native.Nat.{◌-◌}
 use Rattle.recording.proofs.Noting.{puts-more, puts-fewer, seat-node}
 use Rattle.recording.proofs.put_nodes.Goals as goal
 

@@ -1,5 +1,4 @@
 -- `sizes::measure_one` meets its contract. The invariant: what is summed so far and the words that are left make the size of the application (`Summed`).
-use Prim.Native.Nat.{◌-◌}
 use mathlib.Core.Path.{◌∙◌, ap}
 use native.Mathlib.Omega.{arith}
 use Rattle.sizes.specs.Measured.{label_size_at}

@@ -1,5 +1,5 @@
 -- `seats::arrange::fill_seats` meets its contract: the seats so far are filled (`FillingAll`).
-use Prim.Native.Nat.{◌-◌, ◌≤◌}
+use Prim.Native.Nat.{◌≤◌}
 use mathlib.Core.Path.{◌≡◌}
 use lib.ListN.{length}
 use Rattle.seats.specs.Marks.{labels_at}

@@ -1,6 +1,6 @@
 -- `seats::arrange::seat_in_order` meets its contract: the seats so far have their own numbers.
 use lib.ListN.{length}
-use Prim.Native.Nat.{◌-◌, ◌≤◌}
+use Prim.Native.Nat.{◌≤◌}
 use mathlib.Core.Path.{◌≡◌}
 use lib.ListN.{length}
 use Rattle.seats.specs.Seats.{InOrder}

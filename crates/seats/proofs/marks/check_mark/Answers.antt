@@ -4,7 +4,6 @@ use mathlib.Core.Option.{some}
 use Rattle.memory.specs.Table.{word}
 use Rattle.seats.specs.Marks.{bare, unknown}
 use Rattle.seats.proofs.Marking.{mark-none, mark-read, checked-twice, checked-once}
-use native.Mathlib.Omega.{arith}
 use Rattle.seats.proofs.marks.check_mark.Goals as goal
 
 pub returns-then-tag-eq0 : goal.returns-then-tag-eq0

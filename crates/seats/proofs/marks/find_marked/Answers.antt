@@ -1,7 +1,7 @@
 -- `seats::marks::find_marked` meets its contract: the search over the rows is the library's.
-use mathlib.Core.Path.{◌≡◌, sym, ◌∙◌}
+use mathlib.Core.Path.{◌≡◌}
 use mathlib.Core.Bool.{true, false}
-use Rattle.std.proofs.Common.{rules, tests, arith}
+use Rattle.std.proofs.Common.{rules}
 use Rattle.std.proofs.lemmas.Iterator.{first_from_Range}
 use Rattle.machine.specs.Apply.{is_marked}
 use Rattle.seats.specs.Marks.{row_mark}

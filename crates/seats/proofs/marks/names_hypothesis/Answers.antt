@@ -2,7 +2,7 @@
 use mathlib.Core.Path.{◌≡◌, refl}
 use mathlib.Core.Bool.{true, false}
 use lib.ListN.{get_or}
-use Rattle.std.proofs.Common.{rules, tests, arith}
+use Rattle.std.proofs.Common.{rules}
 use Rattle.std.proofs.lemmas.Iterator.{cases_from_any, YieldsList-from_range}
 use Rattle.frames.specs.Logic.{same}
 use Rattle.frames.specs.Database.{statement_at}

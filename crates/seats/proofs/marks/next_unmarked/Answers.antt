@@ -1,5 +1,5 @@
 -- `seats::marks::next_unmarked` meets its contract: the search over the rows is the library's.
-use mathlib.Core.Path.{◌≡◌, sym, ◌∙◌}
+use mathlib.Core.Path.{◌≡◌}
 use Rattle.std.proofs.Common.{rules, tests, arith}
 use Rattle.std.proofs.lemmas.Iterator.{first_from_Range}
 use Rattle.memory.specs.Table.{word}

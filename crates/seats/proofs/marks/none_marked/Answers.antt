@@ -1,6 +1,5 @@
 -- `seats::marks::none_marked` meets its contract: every row of the range is without a mark (`all-rows`).
 use mathlib.Core.Path.{◌≡◌, refl}
-use mathlib.Core.Bool.{true}
 use Rattle.std.proofs.Common.{rules, tests, arith}
 use Rattle.std.proofs.lemmas.Iterator.{cases_from_all, YieldsList-from_range}
 use Rattle.memory.specs.Table.{word}

@@ -1,6 +1,5 @@
 -- `spell::words::put_words` meets its contract: after i words the table has the first i of them (`Copied`).
 use mathlib.Core.Path.{sym, ◌∙◌}
-use Prim.Native.Nat.{◌-◌}
 use Rattle.packed.proofs.Copies.{copied_all, copied-length, copied_more, copied_none}
 use Rattle.spell.specs.Words.{entries_from}
 use Rattle.spell.proofs.Opening.{entries-length, entries_at}
