@@ -77,6 +77,10 @@ filed-width {f} w = ap length w.symbols ∙ sym (database-symbols f)
 pub width_few : {f syms stmts : List ℕ} → Filed f syms stmts → length syms ≤ 4096
 width_few {f} w = let few = (good-facts f w.good).symbol-count in let width = filed-width w in omega arith
 
+-- it has at most 4,096 statements
+pub statements_few : {f syms stmts : List ℕ} → Filed f syms stmts → length stmts ≤ 4096
+statements_few {f} w = let few = (good-facts f w.good).statement_count in let l = filed-length w in omega arith
+
 -- so much of our tables
 pub cut : (syms : List ℕ) {table seats froms tos sets numbers locals froms' tos' sets' numbers' : List ℕ} → Ours table seats froms tos sets numbers locals → length froms' ≡ length syms
     → length tos' ≡ length syms → length sets' ≡ 4 * length syms → length numbers' ≡ length syms → Cut (length syms) table seats froms' tos' sets' numbers' locals
