@@ -1,9 +1,9 @@
 -- Our tables, cleared, and what is lent, are as a proof asks them to be.
 use Prim.Native.Nat.{ℕ, ◌/◌, ◌*◌, ◌≤◌, ◌<◌, min}
-use mathlib.Core.Path.{◌≡◌, refl, sym, ◌∙◌, ap}
+use mathlib.Core.Path.{◌≡◌, sym, ◌∙◌, ap}
 use mathlib.Core.List.{List}
 use native.Mathlib.Omega.{arith}
-use lib.ListN.{length, get_or, length-replicate}
+use lib.ListN.{length, length-replicate}
 use Rattle.clearing.specs.Cleared.{cleared}
 use Rattle.clearing.proofs.Clearing.{cleared-zeros}
 use Rattle.frames.specs.Database.{database}
@@ -17,7 +17,7 @@ use Rattle.resolve.proofs.Filing.{filed-length}
 use Rattle.begin.specs.Begins.{Unnumbered, Roomy}
 use Rattle.disjoint.specs.Disjoint.{Cleared}
 use Rattle.apply.specs.Hyps.{Ranged}
-use Rattle.run.specs.Running.{Env, Tables, Sized, env, tables}
+use Rattle.run.specs.Running.{env, tables}
 use Rattle.proof.specs.Whole.{Blank}
 use Rattle.told.specs.Says.{room_lent}
 use Rattle.proving.specs.Ours.{Ours, Cut}

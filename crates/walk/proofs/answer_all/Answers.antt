@@ -1,11 +1,9 @@
 -- `walk::answer_all` meets its contract: after i statements the answers of their $p are laid (`SoFar`).
-use borrow.Author.Rules.{rules}
 use Rattle.walk.proofs.SoFar.{so-far-none, so_far_more, so-far-done, so-far-size, ours_kept, room-kept}
 use Rattle.resolve.proofs.Filing.{filed-length}
 use Rattle.facts.proofs.GoodFacts.{good-facts}
 use native.Mathlib.Omega.{arith}
 use mathlib.Core.Path.{refl, ◌∙◌}
-use Prim.Native.Nat.{◌-◌}
 use Rattle.walk.proofs.answer_all.Goals as goal
 
 pub loop-i-init : goal.loop-i-init
