@@ -14,7 +14,7 @@ use frames::numbers::StatementNo;
 use frames::{Refusal, TurnedAway, Verdict, fields};
 use lines::{add_text, then_number, then_text, then_two};
 use long::long_statement;
-use proving::offsets;
+use proving::OFFSETS;
 use reply::{all_read, input_room, is_provable, places_room, pool_room, stack_room};
 use told::Told;
 
@@ -170,8 +170,8 @@ fn check_input(input: &[u8], symbols: &mut [u32; 4096], statements: &mut [u32; 4
 
 // Writes the line of the file's refusal, or those of its $p.
 fn write_reply(input: &[u8]) {
-    let mut symbols = offsets();
-    let mut statements = offsets();
+    let mut symbols = [0; OFFSETS];
+    let mut statements = [0; OFFSETS];
     match check_input(input, &mut symbols, &mut statements) {
         Err(away) => verdict_text::print(STDOUT_FILENO, Err(away)),
         Ok(sizes) => write_lines(
