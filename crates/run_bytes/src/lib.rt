@@ -53,7 +53,7 @@ fn after(read: Read, at: usize, place: usize) -> Next
         }),
         Err(halted) => Err(Stopped {
             why: halted.why,
-            place: place,
+            place,
             steps: halted.steps,
         }),
     }
@@ -172,7 +172,7 @@ fn plain_byte(
         }
         let c = s.counts;
         return Ok(State {
-            mode: mode,
+            mode,
             token: at + 1,
             steps: s.steps,
             counts: c,
@@ -209,80 +209,14 @@ fn on_byte(
     requires low { (Low s.mode × (s.steps ≤ 65536)) × ((s.token ≤ at) × (at < length text.now)) }
     ensures { ReadsByte (env file.now symbols.now statements.now p.0 text.now table.now limits) (tables seats.old froms.old tos.old sets.old numbers.old pool.old stack.old places.old locals.old tree.old) (tables seats.new froms.new tos.new sets.new numbers.new pool.new stack.new places.new locals.new tree.new) s at (get_or text.now at 0) result }
 {
-    let mode = s.mode;
-    match mode {
+    match s.mode {
         Mode::Letters { k, can_save } => letter_byte(
             file, symbols, statements, p, text, table, seats, froms, tos, sets, numbers, pool,
             stack, places, locals, tree, limits, s, k, can_save, at,
         ),
-        Mode::Beginning => plain_byte(
-            file,
-            symbols,
-            statements,
-            labels,
-            p,
-            text,
-            table,
-            seats,
-            froms,
-            tos,
-            sets,
-            numbers,
-            pool,
-            stack,
-            places,
-            locals,
-            tree,
-            limits,
-            s,
-            Mode::Beginning,
-            at,
-        ),
-        Mode::Normal => plain_byte(
-            file,
-            symbols,
-            statements,
-            labels,
-            p,
-            text,
-            table,
-            seats,
-            froms,
-            tos,
-            sets,
-            numbers,
-            pool,
-            stack,
-            places,
-            locals,
-            tree,
-            limits,
-            s,
-            Mode::Normal,
-            at,
-        ),
-        Mode::Roster => plain_byte(
-            file,
-            symbols,
-            statements,
-            labels,
-            p,
-            text,
-            table,
-            seats,
-            froms,
-            tos,
-            sets,
-            numbers,
-            pool,
-            stack,
-            places,
-            locals,
-            tree,
-            limits,
-            s,
-            Mode::Roster,
-            at,
+        mode => plain_byte(
+            file, symbols, statements, labels, p, text, table, seats, froms, tos, sets, numbers,
+            pool, stack, places, locals, tree, limits, s, mode, at,
         ),
     }
 }

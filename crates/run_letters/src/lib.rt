@@ -104,11 +104,11 @@ pub fn on_letter(
         Letter::Incomplete => incomplete_letter(k, steps),
         Letter::Ignored => Ok(Going {
             mode: Mode::Letters {
-                k: k,
+                k,
                 can_save: saves,
             },
             counts: c,
-            steps: steps,
+            steps,
         }),
     }
 }
