@@ -77,6 +77,6 @@ pub fn finish(
     ensures { Closes file.now symbols.now at stack.now pool.now c mode place steps result }
 {
     let word = word_at(stack, 5);
-    let ended = check_mode(mode).and_then(|passed| check_end(file, symbols, at, stack, pool, c));
+    let ended = check_mode(mode).and_then(|()| check_end(file, symbols, at, stack, pool, c));
     settled(ended, place, steps, word, c.nodes)
 }
