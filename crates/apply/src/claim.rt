@@ -62,8 +62,9 @@ pub fn finalize_step(
     ensures { Finalizes file.now symbols.now at froms.now tos.now sets.now pool.old stack.old c limits left tag end word nodes pool.new stack.new result }
 {
     let used = c.used;
-    let to = do_substitute(file, symbols, at, froms, tos, pool, used, limits.pool)
-        .ok_or(Refusal::PoolFull)?;
+    let to = do_substitute(file, symbols, at, froms, tos, pool, used, limits.pool).ok_or(
+        Refusal::PoolFull,
+    )?;
     let row = claim_row(file, symbols, at, sets, used, to, tag, end, word);
     let now = Counts {
         used: to,

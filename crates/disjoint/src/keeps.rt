@@ -18,8 +18,12 @@ pub fn is_mandatory(file: &[u8], statements: &[u32], at: u32, v: SymbolNo) -> bo
     ensures bytes { result ≡ among (floats_at file.now statements.now (statement_at file.now at).hyps) v.0 }
     ensures lists { TellsMandatory file.now statements.now at v.0 result }
 {
-    (0..fields::hypotheses(file, at))
-        .any(|j| is_float_of(file, statements, v, fields::hypothesis(file, at, j)))
+    (0..fields::hypotheses(file, at)).any(|j| is_float_of(
+        file,
+        statements,
+        v,
+        fields::hypothesis(file, at, j),
+    ))
 }
 
 // The images of a pair are disjoint, if both members are mandatory. That is asked last: most images are disjoint.
@@ -43,6 +47,12 @@ pub fn keeps_pairs(file: &[u8], statements: &[u32], at: u32, sets: &[u64], table
     ensures bytes { result ≡ all (keeps_at (floats_at file.now statements.now (statement_at file.now at).hyps) sets.now table.now) (statement_at file.now at).pairs }
     ensures lists { Keeps file.now statements.now at sets.now table.now result }
 {
-    (0..fields::pairs(file, at))
-        .all(|i| keeps_pair(file, statements, at, sets, table, fields::pair_of(file, at, i)))
+    (0..fields::pairs(file, at)).all(|i| keeps_pair(
+        file,
+        statements,
+        at,
+        sets,
+        table,
+        fields::pair_of(file, at, i),
+    ))
 }

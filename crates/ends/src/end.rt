@@ -13,9 +13,7 @@ fn holds_claim(file: &[u8], symbols: &[u32], at: u32, row: Row, pool: &[u8]) -> 
     ensures { HoldsClaim file.now symbols.now at row pool.now result }
 {
     // a row of the stack has its range within the pool: the two tests are for all other words
-    row.from <= row.to
-        && row.to <= pool.len()
-        && raw_eq(file, symbols, at, pool, row.from, row.to)
+    row.from <= row.to && row.to <= pool.len() && raw_eq(file, symbols, at, pool, row.from, row.to)
 }
 
 // Whether a row is the claim at `at`: 41, 42.

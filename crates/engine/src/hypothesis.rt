@@ -32,7 +32,9 @@ pub fn prepare_hypothesis(
     if 256 < c {
         return Err(Refusal::TooManyVariables);
     }
-    let end =
-        do_substitute_raw(file, symbols, at, pool, used, limit).ok_or(Refusal::PoolFull)?;
-    Ok(Ready { used: end, count: c })
+    let end = do_substitute_raw(file, symbols, at, pool, used, limit).ok_or(Refusal::PoolFull)?;
+    Ok(Ready {
+        used: end,
+        count: c,
+    })
 }

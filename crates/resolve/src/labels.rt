@@ -35,7 +35,12 @@ fn may_name(file: &[u8], statements: &[u32], p: StatementNo, s: StatementNo) -> 
 }
 
 // The $f, $a or $p of this label.
-pub fn find_named(file: &[u8], statements: &[u32], labels: &[u32], label: &[u8]) -> Option<StatementNo>
+pub fn find_named(
+    file: &[u8],
+    statements: &[u32],
+    labels: &[u32],
+    label: &[u8],
+) -> Option<StatementNo>
     requires { Labelled file.now statements.now labels.now }
     ensures { FindsNamed file.now statements.now label.now result }
 {

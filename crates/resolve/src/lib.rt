@@ -136,12 +136,6 @@ pub fn prepare_step(
     let label = parts::label(token, colon, equals);
     match find_label(file, statements, labels, p, label) {
         Some(s) => prepare_statement(file, statements, p, s),
-        None => prepare_local(
-            parts::has_local(token, colon),
-            label,
-            text,
-            locals,
-            count,
-        ),
+        None => prepare_local(parts::has_local(token, colon), label, text, locals, count),
     }
 }

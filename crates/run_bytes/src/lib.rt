@@ -127,8 +127,8 @@ fn end_token(
     let c = s.counts;
     let from = s.token;
     let read = on_token(
-        s.mode, file, symbols, statements, labels, p, text, table, seats, froms, tos, sets, numbers,
-        pool, stack, places, locals, tree, from, at, c, limits, s.steps,
+        s.mode, file, symbols, statements, labels, p, text, table, seats, froms, tos, sets,
+        numbers, pool, stack, places, locals, tree, from, at, c, limits, s.steps,
     );
     after(read, at, from)
 }
@@ -168,10 +168,7 @@ fn plain_byte(
                 numbers, pool, stack, places, locals, tree, limits, s, at,
             );
         }
-        return Ok(State {
-            token: at + 1,
-            ..s
-        });
+        return Ok(State { token: at + 1, ..s });
     }
     Ok(s)
 }

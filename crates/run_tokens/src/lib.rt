@@ -310,10 +310,7 @@ pub fn on_token(
             in_roster(outcome, steps)
         }
         Mode::Letters { k, can_save } => Ok(Going {
-            mode: Mode::Letters {
-                k,
-                can_save,
-            },
+            mode: Mode::Letters { k, can_save },
             counts: c,
             steps,
         }),

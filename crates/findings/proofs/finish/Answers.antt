@@ -7,5 +7,5 @@ use Rattle.findings.proofs.finish.Goals as goal
 pub returns : goal.returns
 returns c =
     rw c.settled.ensures
-    (closes-both c.check_mode.result c.word_at-word.ensures c.check_mode.ensures
+    (closes-both c.check_mode.result _ c.word_at-word.ensures c.check_mode.ensures
     (MatchResult-weaker c.check_mode.result c.and_then-ended.ensures (λ x q. search (rules, q)) (λ why q. q)))

@@ -17,6 +17,6 @@ returns-after-is_mandatory c =
     let a = c.args in
     let ms = floats_at a.file.now a.statements.now (statement_at a.file.now a.at).hyps in
     elim c.if-is_mandatory.branch [
-      then-is_mandatory w ↦ rw w.result-is (pair-second ms a.sets.now a.table.now a.pair.left.0 a.pair.right.0 c.row.ensures c.row-2.ensures c.all_disjoint.ensures c.if-all_disjoint.false c.is_mandatory.ensures.bytes w.if-is_mandatory.true w.is_mandatory-then-is_mandatory.ensures.bytes)
-    | else-is_mandatory w ↦ rw (w.result-is, w.if-is_mandatory.false) (pair-not-left ms a.sets.now a.table.now a.pair.left.0 a.pair.right.0 c.is_mandatory.ensures.bytes w.if-is_mandatory.false)
+      | then-is_mandatory w ↦ rw w.result-is (pair-second ms a.sets.now a.table.now a.pair.left.0 a.pair.right.0 c.row.ensures c.row-2.ensures c.all_disjoint.ensures c.if-all_disjoint.false c.is_mandatory.ensures.bytes w.if-is_mandatory.true w.is_mandatory-then-is_mandatory.ensures.bytes)
+      | else-is_mandatory w ↦ rw (w.result-is, w.if-is_mandatory.false) (pair-not-left ms a.sets.now a.table.now a.pair.left.0 a.pair.right.0 c.is_mandatory.ensures.bytes w.if-is_mandatory.false)
     ]
