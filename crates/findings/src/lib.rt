@@ -77,16 +77,6 @@ pub fn finish(
     ensures { Closes file.now symbols.now at stack.now pool.now c mode place steps result }
 {
     let word = entry_or(stack, 5, 0);
-    match check_mode(mode) {
-        Err(why) => settled(Err(why), place, steps, word, c.nodes),
-        Ok(()) => {
-            settled(
-                check_end(file, symbols, at, stack, pool, c),
-                place,
-                steps,
-                word,
-                c.nodes,
-            )
-        }
-    }
+    let ended = check_mode(mode).and_then(|()| check_end(file, symbols, at, stack, pool, c));
+    settled(ended, place, steps, word, c.nodes)
 }

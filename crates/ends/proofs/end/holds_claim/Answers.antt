@@ -5,9 +5,3 @@ use Rattle.ends.proofs.end.holds_claim.Goals as goal
 
 pub returns-then-row-pool : goal.returns-then-row-pool
 returns-then-row-pool c = holds_read c.raw_eq.ensures.lists
-
-pub returns-else-row-pool : goal.returns-else-row-pool
-returns-else-row-pool c = holds-never (λ rises within. omega arith)
-
-pub returns-else-row : goal.returns-else-row
-returns-else-row c = holds-never (λ rises within. omega arith)
