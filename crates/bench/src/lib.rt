@@ -18,6 +18,7 @@ use proving::{IMAGE_SETS, LABEL_WORDS, LOCAL_LABELS, OFFSETS, PAIR_SETS, SEATS};
 use told::Told;
 
 // One statement of a checked file, with tables of our own.
+// The tables stay slices: `proving::statement::answer_statement`, which docs/DECISIONS.md names, asks only for their sizes, and a struct of arrays would ask more.
 fn verify_checked(
     file: &[u8],
     symbols: &[u32],

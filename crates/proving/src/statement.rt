@@ -55,6 +55,7 @@ fn answer_proof(
 }
 
 // Statement p: 8 where it is no $p or there is none, else the answer to its proof.
+// The tables stay slices: this function, which docs/DECISIONS.md names, asks only for their sizes, and a struct of arrays would ask more.
 pub fn answer_statement(
     file: &[u8],
     symbols: &[u32],

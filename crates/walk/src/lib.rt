@@ -22,6 +22,7 @@ use proving::{IMAGE_SETS, LABEL_WORDS, LOCAL_LABELS, OFFSETS, PAIR_SETS, SEATS};
 pub type Walked = Result<usize, TurnedAway>;
 
 // Statement p: where it is a $p, its answer is laid at `count`, if there is room, and it is counted.
+// The tables stay slices: `proving::statement::answer_statement`, which docs/DECISIONS.md names, asks only for their sizes, and a struct of arrays would ask more.
 fn answer_next(
     file: &[u8],
     symbols: &[u32],
