@@ -1,10 +1,10 @@
 -- One set within another, by their union; and what the rows of the members of a set tell.
 use Prim.Native.Nat.{ℕ}
 use mathlib.Core.Path.{◌≡◌, refl, sym, ap, ◌∙◌}
-use mathlib.Core.Bool.{Bool, true, false, ◌&&◌, ◌||◌}
+use mathlib.Core.Bool.{Bool, true, false, ◌||◌}
 use mathlib.Core.List.{List, [], ◌∷◌}
 use Rattle.std.specs.Bool.{Decides}
-use Rattle.frames.specs.Logic.{both, all}
+use Rattle.frames.specs.Logic.{all}
 use Rattle.frames.proofs.Tells.{all-member, true-not-false}
 use Rattle.bitset.specs.Sets.{member, members, is_nil, Words, United, TellsEmpty}
 use Rattle.bitset.proofs.Laws.{same-members, union-words}

@@ -50,10 +50,12 @@ fn end_text(
     ensures { EndsText (env file.now symbols.now statements.now p.0 text.now table.now limits) (tables seats.old froms.old tos.old sets.old numbers.old pool.old stack.old places.old locals.old tree.old) tree.new s result }
 {
     let at = fields::statement_offset(statements, p);
+    let c = s.counts;
+    let mode = s.mode;
     let from = s.token;
     if from < text.len() {
-        let going = on_token(
-            s.mode,
+        match on_token(
+            mode,
             file,
             symbols,
             statements,
@@ -73,38 +75,33 @@ fn end_text(
             tree,
             from,
             text.len(),
-            s.counts,
+            c,
             limits,
             s.steps,
-        )
-        .map_err(|halted| Stopped {
-            why: halted.why,
-            place: from,
-            steps: halted.steps,
-        })?;
-        return finish(
-            file,
-            symbols,
-            at,
-            stack,
-            pool,
-            going.counts,
-            going.mode,
-            text.len(),
-            going.steps,
-        );
+        ) {
+            Ok(going) => {
+                return finish(
+                    file,
+                    symbols,
+                    at,
+                    stack,
+                    pool,
+                    going.counts,
+                    going.mode,
+                    text.len(),
+                    going.steps,
+                );
+            }
+            Err(halted) => {
+                return Err(Stopped {
+                    why: halted.why,
+                    place: from,
+                    steps: halted.steps,
+                });
+            }
+        }
     }
-    finish(
-        file,
-        symbols,
-        at,
-        stack,
-        pool,
-        s.counts,
-        s.mode,
-        text.len(),
-        s.steps,
-    )
+    finish(file, symbols, at, stack, pool, c, mode, text.len(), s.steps)
 }
 
 // The text, from its first byte to its end.
@@ -175,14 +172,18 @@ pub fn verify_proof(
     ensures { Tells file.now tree.new (run (database file.now) p.0 (room_of limits) text.now) result }
 {
     let at = fields::statement_offset(statements, p);
-    let c = begin(file, statements, at, text, numbers).map_err(|why| Stopped {
-        why,
-        place: 0,
-        steps: 0,
-    })?;
-    fill(file, at, numbers, table);
-    run_text(
-        file, symbols, statements, labels, p, text, table, seats, froms, tos, sets, numbers, pool,
-        stack, places, locals, tree, limits, c,
-    )
+    match begin(file, statements, at, text, numbers) {
+        Err(why) => Err(Stopped {
+            why: why,
+            place: 0,
+            steps: 0,
+        }),
+        Ok(c) => {
+            fill(file, at, numbers, table);
+            run_text(
+                file, symbols, statements, labels, p, text, table, seats, froms, tos, sets,
+                numbers, pool, stack, places, locals, tree, limits, c,
+            )
+        }
+    }
 }

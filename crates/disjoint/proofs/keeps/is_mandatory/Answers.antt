@@ -1,5 +1,5 @@
 -- `disjoint::keeps::is_mandatory` meets its contract: the chain asks each listed hypothesis, by its index (`any-indexed`).
-use mathlib.Core.Path.{◌∙◌, refl, ap}
+use mathlib.Core.Path.{◌∙◌, refl}
 use Rattle.std.proofs.Common.{rules, tests, length, get_or, arith}
 use Rattle.std.proofs.lemmas.Iterator.{YieldsList-from_range}
 use Rattle.std.proofs.lemmas.Iterator.Search.{any_from_yields_List}

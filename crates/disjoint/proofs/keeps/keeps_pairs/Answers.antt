@@ -1,5 +1,5 @@
 -- `disjoint::keeps::keeps_pairs` meets its contract: the chain asks each pair, by its index (`all-indexed`), and the whole test is that of the definition (`keeps-told`).
-use mathlib.Core.Path.{◌∙◌, refl, ap}
+use mathlib.Core.Path.{◌∙◌, refl}
 use Rattle.std.proofs.Common.{rules, tests, length, get_or, arith}
 use Rattle.std.proofs.lemmas.Iterator.{YieldsList-from_range}
 use Rattle.std.proofs.lemmas.Iterator.Search.{all_from_yields_List}
