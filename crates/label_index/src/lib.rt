@@ -66,6 +66,7 @@ pub fn find_labelled(
     ensures { FindsStatement file.now statements.now label.now result }
 {
     let mut word = entry(labels, hash(label)) as usize;
+    // A chain of numbers, each of which names the next: no range or slice is walked.
     while word != 0 {
         let j = word - 1;
         if same_bytes(rest_at(file, entry(statements, j)), label) {

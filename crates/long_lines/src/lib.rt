@@ -145,12 +145,10 @@ fn write_line(file: &[u8], symbols: &[u32], statements: &[u32], p: StatementNo)
 fn write_lines(file: &[u8], symbols: &[u32], statements: &[u32])
     requires { Filed file.now symbols.now statements.now }
 {
-    let mut i = 0;
-    while i < statements.len() {
-        let p = i;
-        i += 1;
-        if is_provable(file, statements, StatementNo(p)) {
-            write_line(file, symbols, statements, StatementNo(p));
+    for i in 0..statements.len() {
+        let p = StatementNo(i);
+        if is_provable(file, statements, p) {
+            write_line(file, symbols, statements, p);
         }
     }
 }

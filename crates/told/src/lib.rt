@@ -11,7 +11,7 @@ use answers::refusal_number;
 use findings::Answer;
 use memory::Limits;
 
-// What the bench answers: number, place, completed steps.
+// What the bench answers: number, place, completed steps. The number is no enum: it is document 01's answer, 0 to 61, which `Says` gives and C is handed.
 #[derive(Clone, Copy)]
 pub struct Told {
     pub number: usize,
