@@ -115,10 +115,12 @@ fn then_answers(
 {
     let mut done = first;
     let mut taken = 0;
-    for i in 0..statements.len() {
-        let p = StatementNo(i);
-        if is_provable(file, statements, p) {
-            done = then_answer(file, statements, p, answers[taken], out, done);
+    let mut i = 0;
+    while i < statements.len() {
+        let p = i;
+        i += 1;
+        if is_provable(file, statements, StatementNo(p)) {
+            done = then_answer(file, statements, StatementNo(p), answers[taken], out, done);
             taken += 1;
         }
     }

@@ -12,6 +12,9 @@ use Rattle.reply.proofs.then_answers.Goals as goal
 pub loop-i-init : goal.loop-i-init
 loop-i-init c = so-far-none _ _ _
 
+pub overflow_add-i : goal.overflow_add-i
+overflow_add-i c = let few = (good-facts _ c.requires.listed.good).statement_count in let l = filed-length c.requires.listed in search (rules, few, l, c.loop-i-test.true)
+
 pub is_provable-requires : goal.is_provable-requires
 is_provable-requires c = (c.requires.listed, c.loop-i-test.true)
 
@@ -24,8 +27,14 @@ then_answer-done-requires c = record { listed = (c.requires.listed, c.loop-i-tes
 pub overflow_add-taken : goal.overflow_add-taken
 overflow_add-taken c = let few = answers-few _ c.requires.listed.good in let n = (so-far-next c.loop-i.invariant (omega (arith, filed-length c.requires.listed, c.loop-i-test.true)) (sym c.is_provable.ensures ∙ c.if-is_provable.true)).0 in search (rules, few, n)
 
+pub loop-i-smaller-then-is_provable : goal.loop-i-smaller-then-is_provable
+loop-i-smaller-then-is_provable c = omega (arith, c.loop-i-test.true)
+
 pub loop-i-preserved-then-is_provable : goal.loop-i-preserved-then-is_provable
 loop-i-preserved-then-is_provable c = so_far_more c.loop-i.invariant (omega (arith, filed-length c.requires.listed, c.loop-i-test.true)) (sym c.is_provable.ensures ∙ c.if-is_provable.true) c.then_answer-done.ensures
+
+pub loop-i-smaller : goal.loop-i-smaller
+loop-i-smaller c = omega (arith, c.loop-i-test.true)
 
 pub loop-i-preserved : goal.loop-i-preserved
 loop-i-preserved c = so-far-other c.loop-i.invariant (omega (arith, filed-length c.requires.listed, c.loop-i-test.true)) (sym c.is_provable.ensures ∙ c.if-is_provable.false)
