@@ -8,6 +8,7 @@ ghost use Rattle.answers.specs.Packed.{packed_answer, number_in, place_in, steps
 use machine::Refusal;
 
 // The paper's number of a refusal of a proof. (That of a file is `frames::number`.)
+// No `From`: neither `Refusal` nor `usize` is of this crate.
 pub fn refusal_number(why: Refusal) -> usize
     ensures { result ≡ refusal_number why }
 {

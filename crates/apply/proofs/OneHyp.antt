@@ -121,23 +121,6 @@ pub processes-essential : {f syms : List ℕ} {at : ℕ} {row : Row} {froms tos 
 processes-essential kind not-two c =
     record { ranged = λ n r high. r; froms_sized = refl; tos_sized = refl; sets_sized = refl; float = λ e. absurd (not-two (kind ∙ e)); essential = λ n. (c, (refl, (refl, refl))) }
 
--- a row whose range is within stays as it is
-pub clamped-row : (row : Row) (used : ℕ) {from to : ℕ} → (to ≤ used) × (row.to ≤ used → to ≡ row.to) → (from ≤ to) × (row.from ≤ to → from ≡ row.from)
-    → Clamped row used (record { head = row.head; from = from; to = to; tag = row.tag; end = row.end; node = row.node; vars = row.vars })
-clamped-row row used {from} {to} t f =
-    record {
-      rises = f.0;
-      within = t.0;
-      is = λ low high.
-          let to_is = t.1 high in
-          let from_is = f.1 (omega arith) in
-          ranged to_is from_is;
-    }
-  where
-    ranged : to ≡ row.to → from ≡ row.from
-        → ◌≡◌ {A = Row} (record { head = row.head; from = from; to = to; tag = row.tag; end = row.end; node = row.node; vars = row.vars }) row
-    ranged a b = rw (a, b) refl
-
 pub ranged-imaged : {froms tos : List ℕ} {n : ℕ} (f syms xs : List ℕ) → Ranged froms tos n → Imaged f syms froms tos n xs
 ranged-imaged f syms xs r = record { rises = λ s m v. r.rises s; within = λ s m v. r.within s }
 

@@ -11,29 +11,13 @@ use memory::table::{Row, row_at};
 use packed::compare::do_substitute_eq;
 use packed::images::bind;
 
-// The lesser of two numbers.
-fn least(a: usize, b: usize) -> usize
-    ensures { (result ≤ b) × (a ≤ b → result ≡ a) }
-{
-    if a < b { a } else { b }
-}
-
 // A row with its range within the used part of the pool.
 fn clamped(row: Row, used: usize) -> Row
     ensures { Clamped row used result }
 {
-    let vars = row.vars;
-    let to = least(row.to, used);
-    let from = least(row.from, to);
-    Row {
-        head: row.head,
-        from: from,
-        to: to,
-        tag: row.tag,
-        end: row.end,
-        node: row.node,
-        vars: vars,
-    }
+    let to = row.to.min(used);
+    let from = row.from.min(to);
+    Row { from, to, ..row }
 }
 
 // The $f at `at` binds its variable to what the row proves: 35.

@@ -4,14 +4,14 @@ use mathlib.Core.Path.{◌≡◌, refl, sym, ◌∙◌, ap}
 use mathlib.Core.List.{List}
 use native.Mathlib.Omega.{arith}
 use lib.ListN.{length, take, replicate}
-use Rattle.frames.specs.Verdict.{verdict, index, laid, Checked, number_of, Verdict, Good, Refused}
+use Rattle.frames.specs.Verdict.{index, laid, Checked, number_of, Verdict, Good, Refused}
 use Rattle.frames.specs.Database.{database, GoodFile}
 use Rattle.frames.specs.declared.Refusal.{Refusal}
 use Rattle.frames.proofs.Tables.{laid-front, laid-length}
 use Rattle.facts.proofs.Decoded.{database-symbols, database-statements}
 use Rattle.facts.proofs.GoodFacts.{good-facts}
 use Rattle.facts.proofs.Unique.{good-answer}
-use Rattle.machine.specs.Answer.{turned_away, number, place, steps}
+use Rattle.machine.specs.Answer.{number, place, steps}
 use Rattle.machine.specs.Bench.{answer, answer_good, judged}
 use Rattle.machine.specs.Memory.{Room}
 use Rattle.resolve.specs.Filed.{Filed}

@@ -9,7 +9,7 @@ use Rattle.machine.specs.Promise.{Proves}
 use Rattle.machine.proofs.Acceptance.{zero-means-derivation}
 use Rattle.told.specs.declared.Told.{Told}
 use Rattle.told.specs.Says.{Says}
-use Rattle.bench.specs.Calls.{room_in, Zeroed, Verified}
+use Rattle.bench.specs.Calls.{room_in, Verified}
 
 abbrev told : (number place steps : ℕ) → Told
 told n p s = record { number = n; place = p; steps = s }

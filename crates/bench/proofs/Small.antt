@@ -24,8 +24,6 @@ use Rattle.machine.specs.Promise.{Counted, all_steps, some_steps}
 use Rattle.machine.specs.Run.{run}
 use Rattle.machine.proofs.Counts.{run-counted}
 use Rattle.machine.proofs.Numbers.{number-range}
-use Rattle.told.specs.declared.Told.{Told}
-use Rattle.told.specs.Says.{Says}
 
 pub record Small (a : Answer) : Type 0 where
   pub number_small : number a < 256

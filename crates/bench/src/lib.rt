@@ -9,15 +9,16 @@ ghost use Rattle.resolve.specs.Filed.{Filed};
 ghost use Rattle.told.specs.Says.{Says, room_lent};
 ghost use Rattle.bench.specs.Calls.{Verified};
 
-use clearing::{clear_bytes, clear_words64};
+use clearing::clear;
 use filecheck::check;
 use frames::numbers::StatementNo;
 use label_index::fill;
 use proving::statement::answer_statement;
-use proving::{hypothesis_seats, image_sets, label_words, local_labels, offsets, pair_sets};
+use proving::{IMAGE_SETS, LABEL_WORDS, LOCAL_LABELS, OFFSETS, PAIR_SETS, SEATS};
 use told::Told;
 
 // One statement of a checked file, with tables of our own.
+// The tables stay slices: `proving::statement::answer_statement`, which docs/DECISIONS.md names, asks only for their sizes, and a struct of arrays would ask more.
 fn verify_checked(
     file: &[u8],
     symbols: &[u32],
@@ -30,14 +31,14 @@ fn verify_checked(
     requires { Filed file.now symbols.now statements.now }
     ensures { Says (answer_good (database file.now) p.0 (room_lent (length pool.old) (length stack.old) (length places.old))) result }
 {
-    let mut table = pair_sets();
-    let mut seats = hypothesis_seats();
-    let mut froms = offsets();
-    let mut tos = offsets();
-    let mut sets = image_sets();
-    let mut numbers = offsets();
-    let mut locals = local_labels();
-    let mut labels = label_words();
+    let mut table = [0; PAIR_SETS];
+    let mut seats = [0; SEATS];
+    let mut froms = [0; OFFSETS];
+    let mut tos = [0; OFFSETS];
+    let mut sets = [0; IMAGE_SETS];
+    let mut numbers = [0; OFFSETS];
+    let mut locals = [0; LOCAL_LABELS];
+    let mut labels = [0; LABEL_WORDS];
     fill(file, statements, &mut labels);
     answer_statement(
         file,
@@ -68,8 +69,8 @@ fn verify_file(
 ) -> Told
     ensures { Says (answer file.now p (room_lent (length pool.old) (length stack.old) (length places.old))) result }
 {
-    let mut symbols = offsets();
-    let mut statements = offsets();
+    let mut symbols = [0; OFFSETS];
+    let mut statements = [0; OFFSETS];
     match check(file, &mut symbols, &mut statements) {
         Err(away) => Told {
             number: frames::number(away.why),
@@ -95,8 +96,8 @@ pub fn verify(file: &[u8], p: usize, pool: &mut [u8], stack: &mut [u64], places:
     ensures { Verified file.now p pool.old stack.old places.old pool.new stack.new places.new result }
 {
     let told = verify_file(file, p, pool, stack, places);
-    clear_bytes(pool);
-    clear_words64(stack);
-    clear_words64(places);
+    clear(pool, 0);
+    clear(stack, 0);
+    clear(places, 0);
     told
 }

@@ -1,11 +1,10 @@
 -- One set within another, by their union; and what the rows of the members of a set tell.
 use Prim.Native.Nat.{ℕ}
 use mathlib.Core.Path.{◌≡◌, refl, sym, ap, ◌∙◌}
-use mathlib.Core.Bool.{Bool, true, false, ◌&&◌, ◌||◌}
+use mathlib.Core.Bool.{Bool, true, false, ◌||◌}
 use mathlib.Core.List.{List, [], ◌∷◌}
 use Rattle.std.specs.Bool.{Decides}
-use Rattle.std.specs.List.{list_all}
-use Rattle.frames.specs.Logic.{both, all}
+use Rattle.frames.specs.Logic.{all}
 use Rattle.frames.proofs.Tells.{all-member, true-not-false}
 use Rattle.bitset.specs.Sets.{member, members, is_nil, Words, United, TellsEmpty}
 use Rattle.bitset.proofs.Laws.{same-members, union-words}
@@ -13,11 +12,6 @@ use Rattle.bitset.proofs.Listed.{listed-member, member-listed}
 use Rattle.packed.specs.Images.{set_of}
 use Rattle.disjoint.specs.Disjoint.{row_has, apart}
 use Rattle.disjoint.proofs.Numbers.{alike, all-each}
-
-and-both : (t u : Bool) → (t && u) ≡ both t u
-unfolding both
-and-both true u = refl
-and-both false u = refl
 
 right-holds : (t u : Bool) → t ≡ (t || u) → u ≡ true → t ≡ true
 right-holds true u e h = refl
@@ -43,12 +37,6 @@ includes-tells {bits} {x} {y} {joined} answer wx wy u d = alike _ _ there back
     back e =
         let wide : Words bits joined = rw u.is (union-words wx wy) in
         d.1 (same-members wide wx (λ m. u.exactly m ∙ kept m (member x m) (member y m) refl refl e))
-
--- what std says of a list's elements is what `all` says
-pub list_all-all : {A : Type 0} (p : A → Bool) (xs : List A) → list_all p xs ≡ all p xs
-unfolding all
-list_all-all p [] = refl
-list_all-all p (x ∷ xs) = and-both (p x) (list_all p xs) ∙ ap (both (p x)) (list_all-all p xs)
 
 -- what a row includes is what the row has
 pub row_told : (table ys : List ℕ) (a : ℕ) {row : List ℕ} {r : Bool} → row ≡ set_of table a → r ≡ all (member row) ys → r ≡ row_has table ys a

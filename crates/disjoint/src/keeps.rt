@@ -18,16 +18,12 @@ pub fn is_mandatory(file: &[u8], statements: &[u32], at: u32, v: SymbolNo) -> bo
     ensures bytes { result ≡ among (floats_at file.now statements.now (statement_at file.now at).hyps) v.0 }
     ensures lists { TellsMandatory file.now statements.now at v.0 result }
 {
-    let n = fields::hypotheses(file, at);
-    let mut j = 0;
-    while j < n {
-        let h = fields::hypothesis(file, at, j);
-        if is_float_of(file, statements, v, h) {
-            return true;
-        }
-        j += 1;
-    }
-    false
+    (0..fields::hypotheses(file, at)).any(|j| is_float_of(
+        file,
+        statements,
+        v,
+        fields::hypothesis(file, at, j),
+    ))
 }
 
 // The images of a pair are disjoint, if both members are mandatory. That is asked last: most images are disjoint.
@@ -41,17 +37,9 @@ fn keeps_pair(
 ) -> bool
     ensures { result ≡ keeps_at (floats_at file.now statements.now (statement_at file.now at).hyps) sets.now table.now (pair.left.0, pair.right.0) }
 {
-    let left = pair.left;
-    let right = pair.right;
-    if all_disjoint(table, row(sets, left.0), row(sets, right.0)) {
-        return true;
-    }
-    if is_mandatory(file, statements, at, left) {
-        if is_mandatory(file, statements, at, right) {
-            return false;
-        }
-    }
-    true
+    all_disjoint(table, row(sets, pair.left.0), row(sets, pair.right.0))
+        || !(is_mandatory(file, statements, at, pair.left)
+            && is_mandatory(file, statements, at, pair.right))
 }
 
 // The images of every mandatory pair of the assertion at `at` are disjoint.
@@ -59,15 +47,12 @@ pub fn keeps_pairs(file: &[u8], statements: &[u32], at: u32, sets: &[u64], table
     ensures bytes { result ≡ all (keeps_at (floats_at file.now statements.now (statement_at file.now at).hyps) sets.now table.now) (statement_at file.now at).pairs }
     ensures lists { Keeps file.now statements.now at sets.now table.now result }
 {
-    let n = fields::pairs(file, at);
-    let mut i = 0;
-    while i < n {
-        let pair = fields::pair_of(file, at, i);
-        if keeps_pair(file, statements, at, sets, table, pair) {
-            i += 1;
-        } else {
-            return false;
-        }
-    }
-    true
+    (0..fields::pairs(file, at)).all(|i| keeps_pair(
+        file,
+        statements,
+        at,
+        sets,
+        table,
+        fields::pair_of(file, at, i),
+    ))
 }

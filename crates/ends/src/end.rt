@@ -12,13 +12,8 @@ use packed::compare::raw_eq;
 fn holds_claim(file: &[u8], symbols: &[u32], at: u32, row: Row, pool: &[u8]) -> bool
     ensures { HoldsClaim file.now symbols.now at row pool.now result }
 {
-    if row.from <= row.to {
-        if row.to <= pool.len() {
-            return raw_eq(file, symbols, at, pool, row.from, row.to);
-        }
-    }
-    // a row of the stack has its range within the pool: this is for all other words
-    false
+    // a row of the stack has its range within the pool: the two tests are for all other words
+    row.from <= row.to && row.to <= pool.len() && raw_eq(file, symbols, at, pool, row.from, row.to)
 }
 
 // Whether a row is the claim at `at`: 41, 42.

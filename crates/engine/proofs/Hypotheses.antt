@@ -3,7 +3,9 @@ use Rattle.std.proofs.Common.{Some, None, Ok, Err}
 use Prim.Native.Nat.{ℕ, ◌+◌, ◌-◌, ◌≤◌, ◌<◌}
 use mathlib.Core.Path.{◌≡◌, refl, sym, ◌∙◌, ap}
 use mathlib.Core.Bool.{Bool, true, false}
-use mathlib.Core.List.{List}
+use mathlib.Core.Logic.{◌⊎◌, inl, inr}
+use mathlib.Core.List.Memᴰ
+use mathlib.Core.List.{List, [], ◌∷◌}
 use native.Mathlib.Omega.{arith}
 use lib.ListN.{length, get_or, take, drop}
 use Rattle.frames.specs.Logic.{pick}
@@ -13,19 +15,26 @@ use Rattle.frames.proofs.Chains.{equal-yes, equal-no, below-yes, below-no}
 use Rattle.machine.specs.declared.Refusal.{Refusal}
 use Rattle.machine.specs.declared.Refusal.TheVariants.{PoolFull, TooManyVariables}
 use Rattle.machine.specs.Chain.{Result, fine, stop, unless}
-use Rattle.machine.specs.Ground.{is_float, expression_of}
+use Rattle.machine.specs.Ground.{add_if, is_float, expression_of}
 use Rattle.machine.specs.Memory.{cost, recalls}
-use Rattle.machine.specs.Prepare.{numbered_by, ready, spend, leaf_of, prepare_hypothesis}
+use Rattle.machine.specs.Run.{all_numbered}
+use Rattle.machine.specs.Prepare.{numbered, numbered_by, ready, spend, leaf_of, prepare_hypothesis}
 use Rattle.packed.specs.Packing.{packed}
 use Rattle.packed.specs.Pool.{range}
 use Rattle.packed.specs.Lists.{Indexed, Located, Spells}
 use Rattle.packed.proofs.Packs.{pack-length}
 use Rattle.packed.proofs.Written.{range-written}
 use Rattle.packed.proofs.Joining.{grown-of-to, grown-of-full}
-use Rattle.variables.specs.Numbering.{Numbered, Maps}
+use Rattle.variables.specs.Numbering.{Numbered, MapsAll, float_at}
 use Rattle.resolve.proofs.Filing.{located-statement}
 use Rattle.engine.specs.Hypothesis.{MapsFloat, result_of, Prepares}
 use Rattle.engine.specs.Prepared.{Prepared, Made}
+
+numbered_told : {table table' : List ℕ} {count count' : ℕ} (t : Bool) (x : ℕ) → MapsAll table count (add_if t x []) table' count' → (vs : List ℕ)
+    → (t ≡ true → x < length table) → Numbered table count vs → Numbered table' count' (pick t (numbered vs x) vs)
+unfolding add_if pick all_numbered
+numbered_told true x m vs inside n = m.maps vs (λ w k. elim (Memᴰ.cases_cons k) [ inl e ↦ rw e (inside refl) | inr z ↦ absurd (Memᴰ.not-nil z) ]) n
+numbered_told false x m vs inside n = m.maps vs (λ w k. absurd (Memᴰ.not-nil k)) n
 
 chain-stop : {A : Type 0} {t : Bool} {why : Refusal} (rest : Result A) → t ≡ true → unless t why rest ≡ stop why
 unfolding unless
@@ -35,23 +44,12 @@ chain-skip : {A : Type 0} {t : Bool} {rest : Result A} (why : Refusal) → t ≡
 unfolding unless
 chain-skip why e = rw e refl
 
--- a $f numbers its variable
-pub float-maps : (f : List ℕ) (at k v : ℕ) {table table' : List ℕ} {count count' : ℕ} → k ≡ (statement_at f at).kind → k ≡ 2
-    → v ≡ get_or (statement_at f at).symbols 1 0 → Maps table count v table' count' → MapsFloat f at table count table' count'
-unfolding numbered_by is_float floated pick
-float-maps f at k v kind two is m =
-    record {
-      sized = m.sized;
-      maps = λ vs inside n.
-          let float = equal-yes (sym kind ∙ two) in
-          rw float (rw is at (m.maps vs (rw is (inside float)) n));
-    }
-
--- any other statement numbers none
-pub float-none : (f : List ℕ) (at k : ℕ) (table : List ℕ) (count : ℕ) → k ≡ (statement_at f at).kind → (k ≡ 2 → ⊥) → MapsFloat f at table count table count
-unfolding numbered_by is_float pick
-float-none f at k table count kind not-two =
-    record { sized = refl; maps = λ vs inside n. rw (equal-no (λ two. not-two (kind ∙ two))) n }
+-- what is numbered for the list of a $f's variable, or of none, is numbered for the statement
+pub maps-float : (f : List ℕ) (at : ℕ) {table table' : List ℕ} {count count' : ℕ} → MapsAll table count (float_at f at) table' count'
+    → MapsFloat f at table count table' count'
+unfolding numbered_by
+maps-float f at {table} {table'} {count} {count'} m =
+    record { sized = m.sized; maps = numbered_told (is_float (statement_at f at)) (floated (statement_at f at)) m }
 
 -- two hypotheses that are ready and the same have the same parts
 used-in : Prepared → ℕ

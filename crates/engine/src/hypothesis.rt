@@ -1,30 +1,17 @@
 // A port of parts of src/verify.rs of metamath-rs 0.3.9 (prepare_hypothesis), changed (see NOTICE).
 // Preparing a $f or $e: its variable is numbered, and its symbols go into the pool.
 ghost use Rattle.std.specs.Prelude.{◌≤◌, ◌<◌, length};
-ghost use Rattle.engine.specs.Hypothesis.{MapsFloat, Prepares};
+ghost use Rattle.engine.specs.Hypothesis.{Prepares};
 
-use frames::fields;
 use machine::Refusal;
 use packed::substitute::do_substitute_raw;
-use variables::map_var;
+use variables::map_float;
 
 // A hypothesis that is ready: how far the pool is used and how many variables have a number.
 #[derive(Clone, Copy, Debug, PartialEq, Eq)]
 pub struct Ready {
     pub used: usize,
     pub count: u32,
-}
-
-// Numbers the variable of the statement at `at`, if it is a $f.
-fn map_float(file: &[u8], at: u32, numbers: &mut [u32], count: u32) -> u32
-    requires { count < 1000 }
-    ensures { MapsFloat file.now at numbers.old count numbers.new result }
-{
-    if fields::kind(file, at) == 2 {
-        let v = fields::variable(file, at);
-        return map_var(numbers, count, v);
-    }
-    count
 }
 
 // Prepares the $f or $e at `at`: 44, then 43.

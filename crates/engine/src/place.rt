@@ -15,16 +15,7 @@ use memory::{Counts, Limits, Outcome};
 fn marked(row: Row, tag: usize, end: usize) -> Row
     ensures { result ≡ marked_row row tag end }
 {
-    let vars = row.vars;
-    Row {
-        head: row.head,
-        from: row.from,
-        to: row.to,
-        tag: tag,
-        end: end,
-        node: row.node,
-        vars: vars,
-    }
+    Row { tag, end, ..row }
 }
 
 // The step at place k, with a mark or none: 31, 32 to 38, 43, 45.

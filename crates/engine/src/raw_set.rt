@@ -28,14 +28,11 @@ fn mark_symbol(file: &[u8], symbols: &[u32], numbers: &[u32], all: Bitset, s: Sy
 pub fn raw_set(file: &[u8], symbols: &[u32], numbers: &[u32], at: u32) -> Bitset
     ensures { RawGathered file.now symbols.now numbers.now (drop 1 (symbols_at file.now at)) result.words }
 {
-    let n = symbol_count(file, at);
     let base = symbols_from(file, at);
     let mut all = Bitset::new();
-    let mut i = 1;
-    while i < n {
+    for i in 1..symbol_count(file, at) {
         let s = SymbolNo(u16_at(file, base + 2 * i));
         all = mark_symbol(file, symbols, numbers, all, s);
-        i += 1;
     }
     all
 }

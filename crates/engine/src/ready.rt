@@ -63,6 +63,7 @@ pub fn place_hypothesis(
 }
 
 // The hypothesis at `at` is pushed, with a mark or none: 44, 43, 45.
+// A twin of `place_hypothesis` up to its last line: a function for both would hand over a row and the counts, with a definition of its own, and be no plainer.
 pub fn push_hypothesis(
     file: &[u8],
     symbols: &[u32],

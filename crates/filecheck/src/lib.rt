@@ -122,6 +122,7 @@ fn walk_records(file: &[u8], symbols: &mut [u32], statements: &mut [u32]) -> Ver
         statements: 0,
         owed: false,
     };
+    // A cursor: each record says where the next one begins.
     loop {
         let at = st.at as usize;
         if len <= at {

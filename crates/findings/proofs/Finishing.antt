@@ -1,5 +1,6 @@
 -- The findings at the end of the text: the mode, then what is left on the stack.
 use Rattle.std.proofs.Common.{Ok, Err}
+use Rattle.std.specs.Result.{MatchResult}
 use Prim.Native.Nat.{ℕ, ◌+◌, ◌≤◌, ◌<◌}
 use mathlib.Core.Path.{◌≡◌, refl}
 use mathlib.Core.Bool.{Bool, true, false}
@@ -121,6 +122,15 @@ module _ {f syms : List ℕ} {at : ℕ} {stack pool : List ℕ} {c : Counts} {mo
             recorded = rw (← file-is) d.recorded;
             denotes = rw (word_is, ← stack_is, ← file-is) (only-denotes m.stack (expression_of (database f) e.asked) x d.on_stack is);
           }
+
+-- the mode is judged first, and where it passes the end
+module _ {f syms : List ℕ} {at : ℕ} {stack pool : List ℕ} {c : Counts} {mode : Mode} {place steps : ℕ} where
+  pub closes-both : (first ended : Passed) {lowest : ℕ} → lowest ≡ get_or stack 5 0 → ChecksMode mode first
+      → MatchResult first (λ x. ChecksEnd f syms at stack pool c ended) (λ why. ended ≡ Err why)
+      → Closes f syms at stack pool c mode place steps (answer_of ended place steps lowest c.nodes)
+  unfolding answer_of
+  closes-both (Ok x) ended word_is checks then = closes-end word_is checks then
+  closes-both (Err why) ended word_is checks then = rw then (closes-refused checks)
 
 -- what is told of a state is told of the same state
 pub tells-same : {f entries : List ℕ} {a b : machine.State} {answer : Answer} → a ≡ b → Tells f entries b answer → Tells f entries a answer

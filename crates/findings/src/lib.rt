@@ -6,9 +6,9 @@ ghost use Rattle.std.specs.Prelude.{◌≡◌};
 ghost use Rattle.findings.specs.Tells.{ChecksMode, answer_of, Closes};
 
 use ends::end::check_end;
+use frames::refer::entry_or;
 use machine::Refusal;
 use memory::Counts;
-use memory::table::word_at;
 use run::Mode;
 use run_bytes::Stopped;
 
@@ -76,17 +76,7 @@ pub fn finish(
 ) -> Answer
     ensures { Closes file.now symbols.now at stack.now pool.now c mode place steps result }
 {
-    let word = word_at(stack, 5);
-    match check_mode(mode) {
-        Err(why) => settled(Err(why), place, steps, word, c.nodes),
-        Ok(()) => {
-            settled(
-                check_end(file, symbols, at, stack, pool, c),
-                place,
-                steps,
-                word,
-                c.nodes,
-            )
-        }
-    }
+    let word = entry_or(stack, 5, 0);
+    let ended = check_mode(mode).and_then(|()| check_end(file, symbols, at, stack, pool, c));
+    settled(ended, place, steps, word, c.nodes)
 }

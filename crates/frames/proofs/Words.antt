@@ -1,11 +1,13 @@
 -- The words for lists of specs/Logic.antt are the library's: what a chain or `==` answers is what the definitions ask.
-use Prim.Native.Nat.{ℕ}
-use mathlib.Core.Path.{◌≡◌, refl, ap, ◌∙◌}
+use Prim.Native.Nat.{ℕ, suc, ◌+◌}
+use mathlib.Core.Path.{◌≡◌, refl, sym, ap, ap₂, ◌∙◌}
 use mathlib.Core.Bool.{Bool, true, false, ◌&&◌, ◌||◌}
 use mathlib.Core.List.{List, [], ◌∷◌}
 use lib.Dec.{eqb}
 use lib.Pointwise.{pointwise}
-use Rattle.std.specs.List.{list_all, list_any}
+use Rattle.std.specs.List.{list_all, list_any, range_with_len}
+use lib.ListN.{length, get_or}
+use native.Mathlib.Omega.{arith}
 use Rattle.frames.specs.Logic.{equal, both, either, all, any, same}
 
 both-and : (a b : Bool) → (a && b) ≡ both a b
@@ -36,3 +38,30 @@ pointwise-same [] [] = refl
 pointwise-same [] (y ∷ ys) = refl
 pointwise-same (x ∷ xs) [] = refl
 pointwise-same (x ∷ xs) (y ∷ ys) = both-and (eqb x y) (pointwise eqb xs ys) ∙ ap (both (eqb x y)) (pointwise-same xs ys)
+
+-- a chain over the indices of a list asks of what stands at each
+at-first : {A : Type 0} (f : ℕ → A) (a : ℕ) (x : A) → f (a + 0) ≡ x → f a ≡ x
+at-first f a x h = let e : a ≡ a + 0 = omega arith in ap f e ∙ h
+
+at-next : {A : Type 0} (f g : ℕ → A) (a : ℕ) → ((k : ℕ) → f (a + k) ≡ g k) → (k : ℕ) → f (a + 1 + k) ≡ g (suc k)
+at-next f g a h k = let e : a + 1 + k ≡ a + suc k = omega arith in ap f e ∙ h (suc k)
+
+all-from : {A : Type 0} (p : A → Bool) (f : ℕ → A) (d : A) (xs : List A) (a : ℕ) → ((k : ℕ) → f (a + k) ≡ get_or xs k d)
+    → list_all (λ i. p (f i)) (range_with_len a (length xs)) ≡ all p xs
+unfolding all
+all-from p f d [] a h = refl
+all-from p f d (x ∷ xs) a h =
+    both-and (p (f a)) _ ∙ ap₂ both (ap p (at-first f a x (h 0))) (all-from p f d xs (a + 1) (at-next f (λ k. get_or (x ∷ xs) k d) a h))
+
+any-from : {A : Type 0} (p : A → Bool) (f : ℕ → A) (d : A) (xs : List A) (a : ℕ) → ((k : ℕ) → f (a + k) ≡ get_or xs k d)
+    → list_any (λ i. p (f i)) (range_with_len a (length xs)) ≡ any p xs
+unfolding any
+any-from p f d [] a h = refl
+any-from p f d (x ∷ xs) a h =
+    either-or (p (f a)) _ ∙ ap₂ either (ap p (at-first f a x (h 0))) (any-from p f d xs (a + 1) (at-next f (λ k. get_or (x ∷ xs) k d) a h))
+
+pub all-indexed : {A : Type 0} (p : A → Bool) (xs : List A) (d : A) → list_all (λ i. p (get_or xs i d)) (range_with_len 0 (length xs)) ≡ all p xs
+all-indexed p xs d = all-from p (λ i. get_or xs i d) d xs 0 (λ k. let e : 0 + k ≡ k = omega arith in ap (λ i. get_or xs i d) e)
+
+pub any-indexed : {A : Type 0} (p : A → Bool) (xs : List A) (d : A) → list_any (λ i. p (get_or xs i d)) (range_with_len 0 (length xs)) ≡ any p xs
+any-indexed p xs d = any-from p (λ i. get_or xs i d) d xs 0 (λ k. let e : 0 + k ≡ k = omega arith in ap (λ i. get_or xs i d) e)

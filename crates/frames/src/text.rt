@@ -48,13 +48,10 @@ pub fn same_bytes(a: &[u8], b: &[u8]) -> bool
 pub fn find(file: &[u8], offsets: &[u32], text: &[u8]) -> Option<usize>
     ensures { Finds file.now offsets.now text.now result }
 {
-    let mut i = 0;
-    while i < offsets.len() {
-        let rest = rest_at(file, offsets[i]);
-        if same_bytes(rest, text) {
+    for (i, at) in offsets.iter().enumerate() {
+        if same_bytes(rest_at(file, *at), text) {
             return Some(i);
         }
-        i += 1;
     }
     None
 }

@@ -7,7 +7,7 @@ ghost use Rattle.std.specs.Prelude.{◌≡◌, ◌<◌, ◌≤◌, length};
 ghost use Rattle.frames.specs.Search.{FindsStatement};
 ghost use Rattle.label_index.specs.Labelled.{hash_of, Labelled, LabelledTo, Put};
 
-use clearing::clear_words32;
+use clearing::clear;
 use frames::numbers::StatementNo;
 use frames::record::rest_at;
 use frames::refer::entry;
@@ -51,7 +51,7 @@ pub fn fill(file: &[u8], statements: &[u32], labels: &mut [u32])
     requires statements_len_bound { length statements.now ≤ 4096 }
     ensures { Labelled file.now statements.now labels.new }
 {
-    clear_words32(labels);
+    clear(labels, 0);
     put_all(file, statements, labels);
 }
 
@@ -66,6 +66,7 @@ pub fn find_labelled(
     ensures { FindsStatement file.now statements.now label.now result }
 {
     let mut word = entry(labels, hash(label)) as usize;
+    // A chain of numbers, each of which names the next: no range or slice is walked.
     while word != 0 {
         let j = word - 1;
         if same_bytes(rest_at(file, entry(statements, j)), label) {

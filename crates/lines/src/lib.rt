@@ -12,11 +12,7 @@ fn put_text(out: &mut [u8], at: usize, text: &[u8])
     requires { at + length text.now ≤ length out.old }
     ensures { out.new ≡ written text.now at out.old }
 {
-    let mut i = 0;
-    while i < text.len() {
-        out[at + i] = text[i];
-        i += 1;
-    }
+    out[at..at + text.len()].copy_from_slice(text);
 }
 
 // Adds a text at `at`, if there is room.

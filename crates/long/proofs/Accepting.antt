@@ -21,7 +21,7 @@ use Rattle.run_bytes.specs.declared.Stopped.{Stopped}
 use Rattle.findings.specs.Answers.{Accepted}
 use Rattle.findings.specs.Tells.{Tells, accepts, refuses}
 use Rattle.tree.specs.Recorded.{Held}
-use Rattle.postorder.specs.LongForm.{fits, nothing_written, written, entries_for, long_of}
+use Rattle.postorder.specs.LongForm.{nothing_written, written, entries_for, long_of}
 use Rattle.postorder.proofs.Answers.{refusal-answered}
 use Rattle.long_text.specs.Long.{Written, Long, WritesLong}
 use Rattle.long_text.proofs.Answers.{whole-fits, too-long-exceeds}

@@ -8,7 +8,7 @@ use Rattle.frames.specs.Database.{Database, database, statement_at}
 use Rattle.frames.specs.Verdict.{Checked, number_of, Verdict, Good, Refused}
 use Rattle.frames.specs.declared.Refusal.{Refusal}
 use Rattle.machine.specs.Answer as answers
-use Rattle.machine.specs.Bench.{answer, answer_good}
+use Rattle.machine.specs.Bench.{answer_good}
 use Rattle.machine.specs.Memory.{Room, limited}
 use Rattle.machine.specs.Run.{run}
 use Rattle.machine.proofs.Counts.{run-counted}

@@ -9,12 +9,12 @@ ghost use Rattle.told.specs.Says.{room_lent};
 ghost use Rattle.postorder.specs.LongForm.{long_of, long_answer};
 ghost use Rattle.long.specs.Calls.{SaysLong, WritesLongForm};
 
-use crate::writing::tell_long;
-use clearing::{clear_bytes, clear_words64};
+use crate::writing::{ENTRIES, tell_long};
+use clearing::clear;
 use filecheck::check;
 use frames::fields;
 use frames::numbers::StatementNo;
-use proving::offsets;
+use proving::OFFSETS;
 use proving::statement::prove_statement;
 use told::Told;
 
@@ -69,8 +69,8 @@ fn long_file(
     requires { length tree.old ≡ min lent 131072 }
     ensures { SaysLong (long_answer file.now p (room_lent (length pool.old) (length stack.old) (length places.old)) lent (length output.old)) output.old output.new result }
 {
-    let mut symbols = offsets();
-    let mut statements = offsets();
+    let mut symbols = [0; OFFSETS];
+    let mut statements = [0; OFFSETS];
     match check(file, &mut symbols, &mut statements) {
         Err(away) => Told {
             number: frames::number(away.why),
@@ -94,13 +94,6 @@ fn long_file(
     }
 }
 
-// How many of the tree entries that were lent are used.
-fn entries_used(lent: usize) -> usize
-    ensures { result ≡ min lent 131072 }
-{
-    if lent < 131072 { lent } else { 131072 }
-}
-
 // As much of the tree entries that were lent as is ever used.
 fn long_within(
     file: &[u8],
@@ -114,7 +107,7 @@ fn long_within(
     ensures { SaysLong (long_answer file.now p (room_lent (length pool.old) (length stack.old) (length places.old)) (length tree.old) (length output.old)) output.old output.new result }
 {
     let lent = tree.len();
-    let used = entries_used(lent);
+    let used = lent.min(ENTRIES);
     long_file(
         file,
         p,
@@ -140,9 +133,9 @@ pub fn long_form(
     ensures { WritesLongForm file.now p pool.old stack.old places.old tree.old output.old pool.new stack.new places.new tree.new output.new result }
 {
     let told = long_within(file, p, pool, stack, places, tree, output);
-    clear_bytes(pool);
-    clear_words64(stack);
-    clear_words64(places);
-    clear_words64(tree);
+    clear(pool, 0);
+    clear(stack, 0);
+    clear(places, 0);
+    clear(tree, 0);
     told
 }

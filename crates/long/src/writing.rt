@@ -9,19 +9,11 @@ use findings::Answer;
 use long_text::write_long;
 use told::{Told, tell};
 
-// Room for the sizes of 131,072 tree entries.
-fn entry_sizes() -> [u32; 131072]
-    ensures { length result ≡ 131072 }
-{
-    [0; 131072]
-}
+// Room for the sizes of all tree entries: of those that were lent, so many are used at most.
+pub const ENTRIES: usize = 131072;
 
-// Room for 32,768 pending words.
-fn pending_words() -> [u64; 32768]
-    ensures { length result ≡ 32768 }
-{
-    [0; 32768]
-}
+// Room for the pending words of a derivation.
+const PENDING_WORDS: usize = 32768;
 
 // The tree entries that were lent are fewer than 2 x steps - 1: half of them, rounded up, are fewer than the steps.
 fn too_few(lent: usize, steps: usize) -> bool
@@ -46,22 +38,22 @@ fn long_accepted(
     if too_few(lent, steps) {
         return Told {
             number: 60,
-            place: place,
-            steps: steps,
+            place,
+            steps,
         };
     }
-    let mut sizes = entry_sizes();
-    let mut pending = pending_words();
+    let mut sizes = [0; ENTRIES];
+    let mut pending = [0; PENDING_WORDS];
     match write_long(file, tree, nodes, word, &mut sizes, &mut pending, output) {
         Some(n) => Told {
             number: 0,
             place: n,
-            steps: steps,
+            steps,
         },
         None => Told {
             number: 61,
-            place: place,
-            steps: steps,
+            place,
+            steps,
         },
     }
 }

@@ -14,7 +14,7 @@ use frames::numbers::StatementNo;
 use frames::{Refusal, TurnedAway, Verdict, fields};
 use lines::{add_text, then_number, then_text, then_two};
 use long::long_statement;
-use proving::offsets;
+use proving::OFFSETS;
 use reply::{all_read, input_room, is_provable, places_room, pool_room, stack_room};
 use told::Told;
 
@@ -145,12 +145,10 @@ fn write_line(file: &[u8], symbols: &[u32], statements: &[u32], p: StatementNo)
 fn write_lines(file: &[u8], symbols: &[u32], statements: &[u32])
     requires { Filed file.now symbols.now statements.now }
 {
-    let mut i = 0;
-    while i < statements.len() {
-        let p = i;
-        i += 1;
-        if is_provable(file, statements, StatementNo(p)) {
-            write_line(file, symbols, statements, StatementNo(p));
+    for i in 0..statements.len() {
+        let p = StatementNo(i);
+        if is_provable(file, statements, p) {
+            write_line(file, symbols, statements, p);
         }
     }
 }
@@ -170,8 +168,8 @@ fn check_input(input: &[u8], symbols: &mut [u32; 4096], statements: &mut [u32; 4
 
 // Writes the line of the file's refusal, or those of its $p.
 fn write_reply(input: &[u8]) {
-    let mut symbols = offsets();
-    let mut statements = offsets();
+    let mut symbols = [0; OFFSETS];
+    let mut statements = [0; OFFSETS];
     match check_input(input, &mut symbols, &mut statements) {
         Err(away) => verdict_text::print(STDOUT_FILENO, Err(away)),
         Ok(sizes) => write_lines(

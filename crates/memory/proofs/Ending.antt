@@ -18,7 +18,7 @@ use Rattle.memory.specs.declared.table.Row.{Row}
 use Rattle.memory.specs.declared.Counts.{Counts}
 use Rattle.memory.specs.Outcome.{Outcome}
 use Rattle.memory.specs.Table.{with_row}
-use Rattle.memory.specs.Shown.{Bench, Lent, Down, Means, mark_of, EntryShown, PlaceShown, NodeShown, NodePlaced, Derivations, Holding, Records, Shown, Ends, goes, refuses, with_nodes, with_stack, with_places_table, placed, Pushes, AddsPlace}
+use Rattle.memory.specs.Shown.{Bench, Lent, Down, Means, mark_of, EntryShown, PlaceShown, NodeShown, NodePlaced, Derivations, Records, Shown, Ends, goes, refuses, with_nodes, with_stack, with_places_table, Pushes, AddsPlace}
 use Rattle.memory.proofs.Showing.{down-length, shown-pushed, shown-placed}
 
 module _ {P : Counts → Memory → Type 0} where

@@ -11,8 +11,7 @@ use Rattle.frames.specs.Database.{Database, database}
 use Rattle.machine.specs.Memory.{Prepared, Entry, Memory}
 use Rattle.machine.specs.Prepare.{spend}
 use Rattle.machine.specs.Run.{first_variables}
-use Rattle.book.specs.Book.{Tree}
-use Rattle.tree.specs.Recorded.{Applications, Within, SameUpTo, Denotes, Recorded}
+use Rattle.tree.specs.Recorded.{Applications, Within, SameUpTo}
 use Rattle.tree.proofs.Recording.{denotes-more, recorded-kept}
 use Rattle.packed.specs.Pool.{range}
 use Rattle.packed.proofs.Written.{range_front}

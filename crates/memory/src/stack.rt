@@ -17,12 +17,8 @@ pub fn push(stack: &mut [u64], c: Counts, limit: usize, left: usize, row: Row) -
     }
     put_row(stack, left, row);
     Ok(Counts {
-        used: c.used,
-        count: c.count,
-        places: c.places,
-        locals: c.locals,
         depth: left + 1,
-        nodes: c.nodes,
+        ..c
     })
 }
 
@@ -37,12 +33,8 @@ pub fn add_place(places: &mut [u64], c: Counts, limit: usize, row: Row) -> Outco
     }
     put_row(places, next, row);
     Ok(Counts {
-        used: c.used,
-        count: c.count,
         places: next + 1,
-        locals: c.locals,
-        depth: c.depth,
-        nodes: c.nodes,
+        ..c
     })
 }
 
@@ -50,15 +42,10 @@ pub fn add_place(places: &mut [u64], c: Counts, limit: usize, row: Row) -> Outco
 fn saved(row: Row) -> Row
     ensures { result ≡ unmarked_row row }
 {
-    let vars = row.vars;
     Row {
-        head: row.head,
-        from: row.from,
-        to: row.to,
         tag: 0,
         end: 0,
-        node: row.node,
-        vars: vars,
+        ..row
     }
 }
 

@@ -1,9 +1,9 @@
 // Tables of rows, ten words each.
-ghost use Rattle.std.specs.Prelude.{◌≡◌, ◌+◌, ◌*◌, ◌≤◌, ◌<◌, length, get_or};
-ghost use Rattle.packed.specs.Pool.{written};
-ghost use Rattle.memory.specs.Table.{SetAt, RowAt, with_row};
+ghost use Rattle.std.specs.Prelude.{◌≡◌, ◌+◌, ◌*◌, ◌≤◌, ◌<◌, length};
+ghost use Rattle.memory.specs.Table.{RowAt, with_row};
 
 use bitset::Bitset;
+use frames::refer::entry_or;
 
 // A row: on the stack the typecode, the range of the pool, the mark (0 for none, else one more than where it begins in the text) and its end, the word of its
 // derivation, and the set of variables; in a place the same with the tag 0, or the number of the assertion with the tag 1.
@@ -18,40 +18,18 @@ pub struct Row {
     pub vars: Bitset,
 }
 
-// The i-th word of a table; 0 past its end.
-pub fn word_at(table: &[u64], i: usize) -> u64
-    ensures { result ≡ get_or table.now i 0 }
-{
-    if i < table.len() { table[i] } else { 0 }
-}
-
-// The set in four words from i on.
-fn set_at(table: &[u64], i: usize) -> Bitset
-    requires { i < 1000000 }
-    ensures { SetAt table.now i result.words }
-{
-    let a = word_at(table, i);
-    let b = word_at(table, i + 1);
-    let c = word_at(table, i + 2);
-    let d = word_at(table, i + 3);
-    Bitset {
-        words: [a, b, c, d],
-    }
-}
-
 // Row k of a table.
 pub fn row_at(table: &[u64], k: usize) -> Row
     requires { k < 65536 }
     ensures { RowAt table.now k result }
 {
     let i = 10 * k;
-    let head = word_at(table, i);
-    let from = word_at(table, i + 1);
-    let to = word_at(table, i + 2);
-    let tag = word_at(table, i + 3);
-    let end = word_at(table, i + 4);
-    let node = word_at(table, i + 5);
-    let vars = set_at(table, i + 6);
+    let head = entry_or(table, i, 0);
+    let from = entry_or(table, i + 1, 0);
+    let to = entry_or(table, i + 2, 0);
+    let tag = entry_or(table, i + 3, 0);
+    let end = entry_or(table, i + 4, 0);
+    let node = entry_or(table, i + 5, 0);
     Row {
         head: head as usize,
         from: from as usize,
@@ -59,19 +37,7 @@ pub fn row_at(table: &[u64], k: usize) -> Row
         tag: tag as usize,
         end: end as usize,
         node: node as usize,
-        vars: vars,
-    }
-}
-
-// Puts words into a table at `at`.
-fn put_words(table: &mut [u64], at: usize, words: &[u64])
-    requires { at + length words.now ≤ length table.old }
-    ensures { table.new ≡ written words.now at table.old }
-{
-    let mut i = 0;
-    while i < words.len() {
-        table[at + i] = words[i];
-        i += 1;
+        vars: Bitset::from_table(table, i + 6),
     }
 }
 
@@ -81,7 +47,7 @@ pub fn put_row(table: &mut [u64], k: usize, row: Row)
     ensures { table.new ≡ with_row row k table.old }
 {
     let v = row.vars;
-    let words: [u64; 10] = [
+    let words = [
         row.head as u64,
         row.from as u64,
         row.to as u64,
@@ -93,5 +59,6 @@ pub fn put_row(table: &mut [u64], k: usize, row: Row)
         v.words[2],
         v.words[3],
     ];
-    put_words(table, 10 * k, &words);
+    let at = 10 * k;
+    table[at..at + 10].copy_from_slice(&words);
 }

@@ -1,33 +1,71 @@
 -- Comparing with the pool: a text that is met at a place, and a row of texts that are met one after another.
 use Rattle.std.proofs.Common.{Some, None}
-use Prim.Native.Nat.{ℕ, zero, suc, ◌+◌, ◌-◌, ◌%◌, ◌≤◌, ◌<◌}
+use Prim.Native.Nat.{ℕ, ◌+◌, ◌-◌, ◌%◌, ◌≤◌, ◌<◌}
 use mathlib.Core.Path.{◌≡◌, refl, sym, ap, ◌∙◌}
 use mathlib.Core.Bool.{Bool, true, false}
 use mathlib.Core.List.{List, [], ◌∷◌, ◌++◌}
 use native.Mathlib.Omega.{arith}
-use lib.ListN.{length, get_or, take, drop, length-take, drop_of_length-le}
-use lib.Seq.{take-take, take-add, take-append_seam, drop-drop, drop-cons}
+use lib.ListN.{length, get_or, take, drop, length-take, length-drop, drop_of_length-le}
+use lib.Seq.{take-take, take-add, take-append_seam, drop-drop, drop-cons, get_or-drop}
 use Rattle.frames.specs.Logic.{equal, both, pick, same}
 use Rattle.frames.specs.Layout.{rest_at}
 use Rattle.frames.specs.Database.{symbol_at}
 use Rattle.frames.proofs.Chains.{pick_first, pick_second, equal-yes, equal-no}
 use Rattle.frames.proofs.Found.{same_true, same_self}
-use Rattle.frames.proofs.Loops.{Here, here-list, same-lengths}
+use Rattle.frames.proofs.Loops.{Here, same-lengths}
 use Rattle.frames.proofs.Tells.{true-not-false}
 use Rattle.packed.specs.Packing.{ended}
 use Rattle.packed.specs.Pool.{range, spelled, joined}
 use Rattle.packed.specs.Compare.{met, Met}
-use Rattle.packed.proofs.Written.{range_length}
-use Rattle.packed.proofs.Copies.{range_at}
+use Rattle.packed.proofs.Written.{range_length, take-one-more}
 
--- the last byte of a name is marked
-pub ended-end : (name : List ℕ) (i : ℕ) → i < length name → length name ≤ i + 1 → 128 + get_or name i 0 % 128 ≡ get_or (ended name) i 0
+-- a name is its bytes but the last, and the last one, marked
+ended-last : (front : List ℕ) (b : ℕ) → ended (front ++ (b ∷ [])) ≡ front ++ ((128 + b % 128) ∷ [])
 unfolding ended
-ended-end [] i h k = absurd (omega arith)
-ended-end (b ∷ []) zero h k = refl
-ended-end (b ∷ []) (suc i) h k = absurd (omega arith)
-ended-end (b ∷ c ∷ cs) zero h k = absurd (omega arith)
-ended-end (b ∷ c ∷ cs) (suc i) h k = ended-end (c ∷ cs) i (omega arith) (omega arith)
+ended-last [] b = refl
+ended-last (x ∷ []) b = refl
+ended-last (x ∷ y ∷ xs) b = ap (λ (r : List ℕ). x ∷ r) (ended-last (y ∷ xs) b)
+
+both-turned : (t u w : Bool) → both t (both u w) ≡ both u (both t w)
+unfolding both
+both-turned true true w = refl
+both-turned true false w = refl
+both-turned false true w = refl
+both-turned false false w = refl
+
+-- two lists of one length are the same where their last members are, and those before
+same-last : (xs ys : List ℕ) (a b : ℕ) → length xs ≡ length ys → both (equal a b) (same xs ys) ≡ same (xs ++ (a ∷ [])) (ys ++ (b ∷ []))
+unfolding same
+same-last [] [] a b e = refl
+same-last [] (y ∷ ys) a b e = absurd (omega arith)
+same-last (x ∷ xs) [] a b e = absurd (omega arith)
+same-last (x ∷ xs) (y ∷ ys) a b e = both-turned (equal a b) (equal x y) (same xs ys) ∙ ap (both (equal x y)) (same-last xs ys a b (omega arith))
+
+-- one byte more of a range
+range-more : (at n : ℕ) (pool : List ℕ) → at + n < length pool → range at (at + (n + 1)) pool ≡ range at (at + n) pool ++ (get_or pool (at + n) 0 ∷ [])
+unfolding range
+range-more at n pool h =
+    let longer : at + (n + 1) - at ≡ n + 1 = omega arith in
+    let size : at + n - at ≡ n = omega arith in
+    let l : n < length (drop at pool) = rw length-drop (omega arith) in
+    rw (longer, size) (take-one-more (drop at pool) n l ∙ ap (λ (x : ℕ). take n (drop at pool) ++ (x ∷ [])) (get_or-drop at pool n 0))
+
+-- so a name stands where its last byte, marked, does, and those before it
+pub same-ended : {name : List ℕ} {x : Bool} (front : List ℕ) (last at : ℕ) (pool : List ℕ) → name ≡ front ++ (last ∷ []) → length front + 1 ≡ length name
+    → at + length name ≤ length pool
+    → x ≡ both (equal (128 + last % 128) (get_or pool (at + length front) 0)) (same front (range at (at + length front) pool))
+    → x ≡ same (ended name) (range at (at + length name) pool)
+same-ended {name} front last at pool e size h is =
+    let l : length front ≡ length (range at (at + length front) pool) = omega (arith, range_length at (at + length front) pool (omega arith) (omega arith)) in
+    is
+    ∙ rw (e, ended-last front last, ← e, ← size, range-more at (length front) pool (omega arith))
+    (same-last front (range at (at + length front) pool) (128 + last % 128) (get_or pool (at + length front) 0) l)
+
+-- a name of no bytes stands anywhere
+pub same_nothing : (name : List ℕ) (at : ℕ) (pool : List ℕ) → length name ≡ 0 → true ≡ same (ended name) (range at (at + length name) pool)
+unfolding ended range same
+same_nothing [] at pool e = let n : at + 0 - at ≡ 0 = omega arith in rw n refl
+same_nothing (b ∷ bs) at pool e = absurd (omega arith)
 
 both_end : (t : Bool) → t ≡ both t true
 unfolding both
@@ -71,12 +109,6 @@ module _ (at to n : ℕ) (pool : List ℕ) (fits : at + n ≤ to) where
       let e : at + n - at ≡ n = omega arith in
       let d : to - at ≡ n + (to - (at + n)) = omega arith in
       rw (e, d, take-add, drop-drop)
-
--- the i-th of the n bytes at `at`
-pub here-range : (at n : ℕ) (pool : List ℕ) (i : ℕ) → i < n → at + n ≤ length pool → Here (range at (at + n) pool) i (get_or pool (at + i) 0)
-here-range at n pool i h k =
-    let l : i < length (range at (at + n) pool) = omega (arith, range_length at (at + n) pool (omega arith) k) in
-    rw (range_at at (at + n) pool i (omega arith)) at (here-list (range at (at + n) pool) i 0 l)
 
 -- the answer of `met` by its test
 met-yes : (t : Bool) (n c : ℕ) → Some c ≡ pick t (Some n) None → (t ≡ true) × (c ≡ n)

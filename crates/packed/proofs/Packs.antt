@@ -32,14 +32,6 @@ ended-last [] h = absurd (omega arith)
 ended-last (b ∷ []) h = omega arith
 ended-last (b ∷ c ∷ cs) h = simp unary_clauses (simp unary_clauses at (ended-last (c ∷ cs) (omega arith)))
 
--- the bytes before the last are those of the name
-pub ended-before : (name : List ℕ) (i : ℕ) → i + 1 < length name → get_or (ended name) i 0 ≡ get_or name i 0
-unfolding ended
-ended-before [] i h = absurd (omega arith)
-ended-before (b ∷ []) i h = absurd (omega arith)
-ended-before (b ∷ c ∷ cs) zero h = refl
-ended-before (b ∷ c ∷ cs) (suc i) h = ended-before (c ∷ cs) i (omega arith)
-
 -- so they are below 128
 pub ended-low : (name : List ℕ) → ((b : ℕ) → b ∈ name → b < 128) → (i : ℕ) → i + 1 < length name → get_or (ended name) i 0 < 128
 unfolding ended

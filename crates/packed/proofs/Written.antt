@@ -7,6 +7,8 @@ use native.Mathlib.Numerals.{add-one}
 use native.Mathlib.Omega.{arith}
 use lib.ListN.{length, get_or, take, drop, set, length-append, length-take, length-drop, length-set, take-append-drop}
 use lib.Seq.{length-take-le, take-suc, drop-cons, take-append-le, drop-append-le, take_at, drop_at, set_at, set-append_left, get_or-take, drop-drop, take-append_seam, drop-append-add}
+use borrow.Rule.Slice.PartMut.{put_mid}
+use Rattle.std.specs.List.{copy_within}
 use Rattle.packed.specs.Packing.{ended}
 use Rattle.packed.specs.Pool.{written, range}
 
@@ -34,6 +36,17 @@ set-later xs ys n i b e = rw (← e) (stored xs)
     stored : (zs : List ℕ) → set (zs ++ ys) (length zs + i) b ≡ zs ++ set ys i b
     stored [] = rw zero-add
     stored (z ∷ zs) = rw suc-add (ap (λ (r : List ℕ). z ∷ r) (stored zs))
+
+-- a text copied over the part of its length, and a part of the buffer copied to another place
+pub copied_in : (text : List ℕ) (at n : ℕ) (pool : List ℕ) → n ≡ length text → put_mid at n pool text ≡ written text at pool
+unfolding written
+copied_in text at n pool e = rw (e, drop-drop) refl
+
+pub copied-within : (from to at : ℕ) (pool : List ℕ) → from ≤ to → to ≤ length pool → copy_within pool from to at ≡ written (range from to pool) at pool
+unfolding written range
+copied-within from to at pool h k =
+    let size : to - from ≡ length (range from to pool) = sym (range_length from to pool h k) in
+    rw (← size) (append_assoc (take at pool) (range from to pool) _)
 
 -- the last byte of a name, marked
 pub set_ended : (name : List ℕ) → 1 ≤ length name → set name (length name - 1) (128 + get_or name (length name - 1) 0 % 128) ≡ ended name

@@ -1,6 +1,6 @@
 // A port of parts of src/verify.rs of metamath-rs 0.3.9 (do_substitute_eq), changed (see NOTICE).
 // Comparing with the pool: a name, a copy within the pool, and the symbols of a statement, substituted or as they are, in one pass.
-ghost use Rattle.std.specs.Prelude.{◌≡◌, [], ◌∷◌, ◌+◌, ◌≤◌, ◌<◌, length, get_or, drop};
+ghost use Rattle.std.specs.Prelude.{◌≡◌, [], ◌∷◌, ◌+◌, ◌≤◌, ◌<◌, length, drop};
 ghost use Rattle.frames.specs.Logic.{same};
 ghost use Rattle.frames.specs.Layout.{symbols_at};
 ghost use Rattle.packed.specs.Packing.{ended};
@@ -13,18 +13,6 @@ use frames::numbers::SymbolNo;
 use frames::read::u16_at;
 use frames::record::{symbol_count, symbols_from};
 use frames::refer::entry;
-
-// The i-th byte of a name whose last byte is marked.
-fn ended_byte(name: &[u8], i: usize) -> u8
-    requires { i < length name.now }
-    ensures { result ≡ get_or (ended name.now) i 0 }
-{
-    let b = name[i];
-    if i + 1 < name.len() {
-        return b;
-    }
-    128 + b % 128
-}
 
 // Whether the packed name of one byte stands at `at`. Most names are of one byte.
 fn matches_byte(pool: &[u8], at: usize, name: &[u8]) -> bool
@@ -43,14 +31,11 @@ fn matches_name(pool: &[u8], at: usize, name: &[u8]) -> bool
     if name.len() == 1 {
         return matches_byte(pool, at, name);
     }
-    let mut i = 0;
-    while i < name.len() {
-        if ended_byte(name, i) != pool[at + i] {
-            return false;
-        }
-        i += 1;
-    }
-    true
+    let Some((last, front)) = name.split_last() else {
+        return true;
+    };
+    let end = at + front.len();
+    128 + *last % 128 == pool[end] && front == &pool[at..end]
 }
 
 // Whether the n bytes from `from` on stand at `at` too.
@@ -58,14 +43,7 @@ fn matches_range(pool: &[u8], at: usize, from: usize, n: usize) -> bool
     requires { (at + n ≤ length pool.now) × (from + n ≤ length pool.now) }
     ensures { result ≡ same (range from (from + n) pool.now) (range at (at + n) pool.now) }
 {
-    let mut i = 0;
-    while i < n {
-        if pool[from + i] != pool[at + i] {
-            return false;
-        }
-        i += 1;
-    }
-    true
+    pool[from..from + n] == pool[at..at + n]
 }
 
 // Meets a name in the bytes from `at` up to `to`: where it ends, or none where other bytes stand there.
@@ -83,7 +61,8 @@ fn meet_name(pool: &[u8], at: usize, to: usize, name: &[u8]) -> Option<usize>
     None
 }
 
-// Meets the bytes from `from` up to `end` in those from `at` up to `to`.
+// Meets the bytes from `from` up to `end` in those from `at` up to `to`. (A twin of `meet_name`: one function would take the test as a
+// closure, and both bodies with its contract are longer than these.)
 fn meet_range(pool: &[u8], at: usize, to: usize, from: usize, end: usize) -> Option<usize>
     requires { ((at ≤ to) × (to ≤ length pool.now)) × ((from ≤ end) × (end ≤ length pool.now)) }
     ensures { result ≡ met (range from end pool.now) at to pool.now }
@@ -140,19 +119,19 @@ pub fn do_substitute_eq(
     let n = symbol_count(file, at);
     let base = symbols_from(file, at);
     let mut c = from;
-    let mut i = 1;
-    while i < n {
+    for i in 1..n {
         let s = SymbolNo(u16_at(file, base + 2 * i));
-        match meet_piece(file, symbols, froms, tos, s, pool, c, to) {
-            Some(next) => c = next,
-            None => return false,
-        }
-        i += 1;
+        let Some(next) = meet_piece(file, symbols, froms, tos, s, pool, c, to) else {
+            return false;
+        };
+        c = next;
     }
     c == to
 }
 
 // Whether the bytes from `from` up to `to` are the symbols of the statement at `at`, its typecode left out, as they are.
+// (A twin of `do_substitute_eq`: one function would take what meets a symbol as a closure, whose contract, with the images that it asks for,
+// is longer than this loop.)
 pub fn raw_eq(file: &[u8], symbols: &[u32], at: u32, pool: &[u8], from: usize, to: usize) -> bool
     requires { (from ≤ to) × (to ≤ length pool.now) }
     ensures bytes { result ≡ same (range from to pool.now) (joined (spelled file.now symbols.now) (drop 1 (symbols_at file.now at))) }
@@ -161,15 +140,13 @@ pub fn raw_eq(file: &[u8], symbols: &[u32], at: u32, pool: &[u8], from: usize, t
     let n = symbol_count(file, at);
     let base = symbols_from(file, at);
     let mut d = from;
-    let mut j = 1;
-    while j < n {
+    for j in 1..n {
         let s = SymbolNo(u16_at(file, base + 2 * j));
         let name = fields::name(file, entry(symbols, s.0));
-        match meet_name(pool, d, to, name) {
-            Some(next) => d = next,
-            None => return false,
-        }
-        j += 1;
+        let Some(next) = meet_name(pool, d, to, name) else {
+            return false;
+        };
+        d = next;
     }
     d == to
 }

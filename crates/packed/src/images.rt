@@ -1,7 +1,7 @@
 // A port of parts of src/verify.rs of metamath-rs 0.3.9 (subst_info, do_substitute_vars), changed (see NOTICE).
 // The table of a substitution, by the number of a symbol: where the image of a variable stands in the pool, and the set of the numbers
 // of the variables that occur in it, as many words a symbol as a set has.
-ghost use Rattle.std.specs.Prelude.{◌≡◌, ◌<◌, get_or, set, drop};
+ghost use Rattle.std.specs.Prelude.{◌≡◌, ◌<◌, set, drop};
 ghost use Rattle.frames.specs.Layout.{symbols_at};
 ghost use Rattle.packed.specs.Images.{set_of, store_set, Included, Gathered};
 ghost use Rattle.packed.specs.Lists.{Gathers};
@@ -11,58 +11,27 @@ use frames::fields::class;
 use frames::numbers::SymbolNo;
 use frames::read::u16_at;
 use frames::record::{symbol_count, symbols_from};
-use frames::refer::entry;
-
-// The i-th word of a table; 0 past its end.
-fn word_at(table: &[u64], i: usize) -> u64
-    ensures { result ≡ get_or table.now i 0 }
-{
-    if i < table.len() { table[i] } else { 0 }
-}
-
-// Lays a word into a table of words.
-fn lay_word(table: &mut [u64], i: usize, word: u64)
-    ensures { table.new ≡ set table.old i word }
-{
-    if i < table.len() {
-        table[i] = word;
-    }
-}
-
-// Lays a place into a table of places.
-fn lay_place(table: &mut [u32], i: usize, place: u32)
-    ensures { table.new ≡ set table.old i place }
-{
-    if i < table.len() {
-        table[i] = place;
-    }
-}
+use frames::refer::{entry, lay};
 
 // The set of the image of symbol s.
 pub fn image_set(sets: &[u64], s: SymbolNo) -> Bitset
     requires { s.0 < 65536 }
     ensures { result.words ≡ set_of sets.now s.0 }
 {
-    let from = Bitset::WORDS * s.0;
-    let a = word_at(sets, from);
-    let b = word_at(sets, from + 1);
-    let c = word_at(sets, from + 2);
-    let d = word_at(sets, from + 3);
-    Bitset {
-        words: [a, b, c, d],
-    }
+    Bitset::from_table(sets, Bitset::WORDS * s.0)
 }
 
-// Lays the set of the image of symbol s.
+// Lays the set of the image of symbol s. (Four stores, as the definition has them: each past the table's end is left out alone, which the
+// copy of a slice could not do, and a loop over a constant count is no plainer.)
 fn lay_set(sets: &mut [u64], s: SymbolNo, vars: Bitset)
     requires { s.0 < 65536 }
     ensures { sets.new ≡ store_set sets.old s.0 vars.words }
 {
     let from = Bitset::WORDS * s.0;
-    lay_word(sets, from, vars.words[0]);
-    lay_word(sets, from + 1, vars.words[1]);
-    lay_word(sets, from + 2, vars.words[2]);
-    lay_word(sets, from + 3, vars.words[3]);
+    lay(sets, from, vars.words[0]);
+    lay(sets, from + 1, vars.words[1]);
+    lay(sets, from + 2, vars.words[2]);
+    lay(sets, from + 3, vars.words[3]);
 }
 
 // Binds symbol s to the range of the pool from `from` up to `to`, in which the variables of the set `vars` occur.
@@ -78,8 +47,8 @@ pub fn bind(
     requires { s.0 < 65536 }
     ensures { (froms.new ≡ set froms.old s.0 from) × ((tos.new ≡ set tos.old s.0 to) × (sets.new ≡ store_set sets.old s.0 vars.words)) }
 {
-    lay_place(froms, s.0, from);
-    lay_place(tos, s.0, to);
+    lay(froms, s.0, from);
+    lay(tos, s.0, to);
     lay_set(sets, s, vars);
 }
 
@@ -102,11 +71,9 @@ pub fn do_substitute_vars(file: &[u8], symbols: &[u32], at: u32, sets: &[u64]) -
     let n = symbol_count(file, at);
     let base = symbols_from(file, at);
     let mut all = Bitset::new();
-    let mut i = 1;
-    while i < n {
+    for i in 1..n {
         let s = SymbolNo(u16_at(file, base + 2 * i));
         all = include(file, symbols, sets, all, s);
-        i += 1;
     }
     all
 }

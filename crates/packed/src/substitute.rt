@@ -72,16 +72,16 @@ pub fn do_substitute(
     let n = symbol_count(file, at);
     let base = symbols_from(file, at);
     let mut end = used;
-    let mut i = 1;
-    while i < n {
+    for i in 1..n {
         let s = SymbolNo(u16_at(file, base + 2 * i));
         end = add_piece(file, symbols, froms, tos, s, pool, end, limit)?;
-        i += 1;
     }
     Some(end)
 }
 
 // Adds the symbols of the statement at `at`, its typecode left out, by their own names.
+// (A twin of `do_substitute`: one function would take what adds a symbol as a closure, whose contract, with the images that it asks for and
+// leaves as they are, is longer than this loop.)
 pub fn do_substitute_raw(
     file: &[u8],
     symbols: &[u32],
@@ -97,11 +97,9 @@ pub fn do_substitute_raw(
     let n = symbol_count(file, at);
     let base = symbols_from(file, at);
     let mut end = used;
-    let mut i = 1;
-    while i < n {
+    for i in 1..n {
         let s = SymbolNo(u16_at(file, base + 2 * i));
         end = add_symbol(file, symbols, s, pool, end, limit)?;
-        i += 1;
     }
     Some(end)
 }

@@ -1,13 +1,13 @@
 -- How a call is answered: refused, with the pool as it was, or by the number of what was added or compared.
-use Prim.Native.Nat.{ℕ, ◌≤◌, ◌<◌}
+use Prim.Native.Nat.{ℕ, ◌≤◌}
 use mathlib.Core.Path.{◌≡◌, refl, sym, ◌∙◌, ap}
 use mathlib.Core.Bool.{Bool, true, false}
 use mathlib.Core.List.{List}
 use lib.ListN.{length}
 use Rattle.frames.specs.Logic.{both, same}
-use Rattle.frames.proofs.Chains.{pick_first, pick_second, at_most-yes, at_most-no}
-use Rattle.frames.proofs.Tells.{true-not-false}
-use Rattle.packed.specs.Pool.{range, grown, Adds, Untouched, Grown}
+use Rattle.frames.proofs.Chains.{pick_first, pick_second, at_most-true}
+use Rattle.frames.proofs.Tells.{true-not-false, both_true}
+use Rattle.packed.specs.Pool.{range, Adds, Untouched, Grown}
 use Rattle.packed.proofs.Adding.{adds_same}
 use Rattle.packed_calls.specs.Answers.{refused, number_of, truth_of, roomed, lies, compared, Answered, Says, Copies}
 
@@ -69,29 +69,11 @@ unfolding both
 second-no true e = e
 second-no false e = refl
 
--- the tests of the ranges
-module _ (used limit : ℕ) (pool : List ℕ) where
-  pub roomed-yes : used ≤ limit → limit ≤ length pool → roomed used limit pool ≡ true
-  unfolding roomed
-  roomed-yes a b = both_yes (at_most-yes a) (at_most-yes b)
+-- what the tests of the ranges tell where they hold
+pub roomed-known : {used limit : ℕ} (pool : List ℕ) → true ≡ roomed used limit pool → (used ≤ limit) × (limit ≤ length pool)
+unfolding roomed
+roomed-known pool e = let h = both_true _ _ (sym e) in (at_most-true _ _ h.0, at_most-true _ _ h.1)
 
-  pub limit-short : limit < used → roomed used limit pool ≡ false
-  unfolding roomed
-  limit-short a = first-no _ (at_most-no a)
-
-  pub pool-short : length pool < limit → roomed used limit pool ≡ false
-  unfolding roomed
-  pool-short a = second-no _ (at_most-no a)
-
-module _ (from to size : ℕ) where
-  pub lies-yes : from ≤ to → to ≤ size → lies from to size ≡ true
-  unfolding lies
-  lies-yes a b = both_yes (at_most-yes a) (at_most-yes b)
-
-  pub lies-turned : to < from → lies from to size ≡ false
-  unfolding lies
-  lies-turned a = first-no _ (at_most-no a)
-
-  pub lies-past : size < to → lies from to size ≡ false
-  unfolding lies
-  lies-past a = second-no _ (at_most-no a)
+pub lies-known : {from to size : ℕ} → true ≡ lies from to size → (from ≤ to) × (to ≤ size)
+unfolding lies
+lies-known e = let h = both_true _ _ (sym e) in (at_most-true _ _ h.0, at_most-true _ _ h.1)

@@ -1,6 +1,6 @@
 -- The test of the images, symbol by symbol: it passes exactly where each variable has its image (`within-imaged`, `imaged-within`). And the
 -- test as a loop makes it.
-use Prim.Native.Nat.{ℕ, ◌+◌, ◌≤◌, ◌<◌}
+use Prim.Native.Nat.{ℕ, ◌+◌, ◌≤◌}
 use mathlib.Core.Path.{◌≡◌, refl, sym, ◌∙◌, ap}
 use mathlib.Core.Bool.{Bool, true, false}
 use mathlib.Core.List.Memᴰ
@@ -10,7 +10,7 @@ use Rattle.frames.specs.Logic.{at_most, either, both, no, all}
 use Rattle.frames.specs.Layout.{symbols_at}
 use Rattle.frames.specs.Facts.{◌∈◌}
 use Rattle.frames.proofs.Loops.{Here}
-use Rattle.frames.proofs.Chains.{either_first, either_second, both_first, both-second, no-of-true, no-of-false, at_most-yes, at_most-no, at_most-true}
+use Rattle.frames.proofs.Chains.{either_first, either_second, both-second, no-of-true, no-of-false, at_most-yes, at_most-true}
 use Rattle.frames.proofs.Tells.{true-not-false, both_true, all-member}
 use Rattle.packed.specs.Pool.{is_var, Imaged}
 use Rattle.packed_calls.specs.Answers.{image_within, within}
@@ -31,12 +31,9 @@ module _ (f syms froms tos : List ℕ) (used s : ℕ) {from to : ℕ} (v : is_va
   image-within l h =
       variable-within f syms froms tos used s v (both-second (at_most-yes (rw (← a, ← b) l)) (sym (at_most-yes (rw (← b) h))))
 
-  pub image-turned : to < from → false ≡ image_within f syms froms tos used s
-  image-turned l = variable-within f syms froms tos used s v (both_first _ (at_most-no (rw (← a, ← b) l)) refl)
-
-  pub image-past : from ≤ to → used < to → false ≡ image_within f syms froms tos used s
-  image-past l h =
-      variable-within f syms froms tos used s v (both-second (at_most-yes (rw (← a, ← b) l)) (sym (at_most-no (rw (← b) h))))
+  -- its two tests tell
+  pub image-told : both (at_most from to) (at_most to used) ≡ image_within f syms froms tos used s
+  image-told = rw (a, b) (variable-within f syms froms tos used s v refl)
 
 -- where a variable passed, both its tests hold
 passed : (t u w : Bool) → either (no t) (both u w) ≡ true → t ≡ true → (u ≡ true) × (w ≡ true)

@@ -16,10 +16,10 @@ use frames::record::{symbol_count, symbols_from};
 use frames::refer::entry;
 use packed::{compare, pool, substitute};
 
-// There is no room.
+// There is no room. (A number, as the answers are for C.)
 pub const FULL: usize = 0xffff_ffff_ffff_ffff;
 
-// The ranges are wrong.
+// The ranges are wrong. (A number, as the answers are for C.)
 pub const REFUSED: usize = 0xffff_ffff_ffff_fffe;
 
 // Whether symbol s, where it is a variable, has its image within the first `used` bytes of the pool.
@@ -33,17 +33,12 @@ fn image_within(
 ) -> bool
     ensures { result ≡ image_within file.now symbols.now froms.now tos.now used s.0 }
 {
-    if fields::class(file, entry(symbols, s.0)) == 1 {
-        let from = entry(froms, s.0) as usize;
-        let end = entry(tos, s.0) as usize;
-        if from <= end {
-            if end <= used {
-                return true;
-            }
-        }
-        return false;
+    if fields::class(file, entry(symbols, s.0)) != 1 {
+        return true;
     }
-    true
+    let from = entry(froms, s.0) as usize;
+    let end = entry(tos, s.0) as usize;
+    from <= end && end <= used
 }
 
 // Whether each variable of the statement at `at` has its image there.
@@ -52,16 +47,29 @@ fn imaged(file: &[u8], symbols: &[u32], at: u32, froms: &[u32], tos: &[u32], use
 {
     let n = symbol_count(file, at);
     let base = symbols_from(file, at);
-    let mut i = 1;
-    while i < n {
+    for i in 1..n {
         let s = SymbolNo(u16_at(file, base + 2 * i));
-        if image_within(file, symbols, froms, tos, s, used) {
-            i += 1;
-        } else {
+        if !image_within(file, symbols, froms, tos, s, used) {
             return false;
         }
     }
     true
+}
+
+// Whether the used part, and the limit after it, lie within the pool.
+#[tactic(auto, unfolding(crate::specs::Answers::roomed, frames::specs::Logic::at_most, frames::specs::Logic::both))]
+fn roomed(used: usize, limit: usize, pool: &[u8]) -> bool
+    ensures { result ≡ roomed used limit pool.now }
+{
+    used <= limit && limit <= pool.len()
+}
+
+// Whether a range lies within so many bytes.
+#[tactic(auto, unfolding(crate::specs::Answers::lies, frames::specs::Logic::at_most, frames::specs::Logic::both))]
+fn lies(from: usize, to: usize, size: usize) -> bool
+    ensures { result ≡ lies from to size }
+{
+    from <= to && to <= size
 }
 
 // The number of an answer.
@@ -72,10 +80,11 @@ fn number(grown: Option<usize>) -> usize
 }
 
 // The number of a truth value.
+#[tactic(auto, unfolding(crate::specs::Answers::truth_of))]
 fn truth(same: bool) -> usize
     ensures { result ≡ truth_of same }
 {
-    if same { 1 } else { 0 }
+    usize::from(same)
 }
 
 // Adds a copy of a range.
@@ -83,16 +92,10 @@ pub fn packed_copy(pool: &mut [u8], used: usize, limit: usize, from: usize, to: 
     ensures bytes { Answered (both (roomed used limit pool.old) (lies from to used)) (range from to pool.old) used limit pool.old pool.new result }
     ensures lists { Says (both (roomed used limit pool.old) (lies from to used)) number_of (Copies from to used limit pool.old pool.new) result }
 {
-    if used <= limit {
-        if limit <= pool.len() {
-            if from <= to {
-                if to <= used {
-                    return number(pool::add_range(pool, used, limit, from, to));
-                }
-            }
-        }
+    if !roomed(used, limit, pool) || !lies(from, to, used) {
+        return REFUSED;
     }
-    REFUSED
+    number(pool::add_range(pool, used, limit, from, to))
 }
 
 // Adds the symbols of a statement as substituted.
@@ -109,16 +112,10 @@ pub fn packed_substitute(
     ensures bytes { Answered (both (roomed used limit pool.old) (within file.now symbols.now at froms.now tos.now used)) (substitution file.now symbols.now at froms.now tos.now pool.old) used limit pool.old pool.new result }
     ensures lists { Says (both (roomed used limit pool.old) (within file.now symbols.now at froms.now tos.now used)) number_of (Substitutes file.now symbols.now at froms.now tos.now used limit pool.old pool.new) result }
 {
-    if used <= limit {
-        if limit <= pool.len() {
-            if imaged(file, symbols, at, froms, tos, used) {
-                return number(substitute::do_substitute(
-                    file, symbols, at, froms, tos, pool, used, limit,
-                ));
-            }
-        }
+    if !roomed(used, limit, pool) || !imaged(file, symbols, at, froms, tos, used) {
+        return REFUSED;
     }
-    REFUSED
+    number(substitute::do_substitute(file, symbols, at, froms, tos, pool, used, limit))
 }
 
 // Adds the symbols of a statement as they are.
@@ -133,12 +130,10 @@ pub fn packed_spell(
     ensures bytes { Answered (roomed used limit pool.old) (spelling file.now symbols.now at) used limit pool.old pool.new result }
     ensures lists { Says (roomed used limit pool.old) number_of (Spells file.now symbols.now at used limit pool.old pool.new) result }
 {
-    if used <= limit {
-        if limit <= pool.len() {
-            return number(substitute::do_substitute_raw(file, symbols, at, pool, used, limit));
-        }
+    if !roomed(used, limit, pool) {
+        return REFUSED;
     }
-    REFUSED
+    number(substitute::do_substitute_raw(file, symbols, at, pool, used, limit))
 }
 
 // Whether a range is the symbols of a statement as substituted.
@@ -155,16 +150,10 @@ pub fn packed_is_substituted(
     ensures bytes { result ≡ compared (both (lies from to (length pool.now)) (within file.now symbols.now at froms.now tos.now (length pool.now))) from to pool.now (substitution file.now symbols.now at froms.now tos.now pool.now) }
     ensures lists { Says (both (lies from to (length pool.now)) (within file.now symbols.now at froms.now tos.now (length pool.now))) truth_of (Compares file.now symbols.now at froms.now tos.now pool.now from to) result }
 {
-    if from <= to {
-        if to <= pool.len() {
-            if imaged(file, symbols, at, froms, tos, pool.len()) {
-                return truth(compare::do_substitute_eq(
-                    file, symbols, at, froms, tos, pool, from, to,
-                ));
-            }
-        }
+    if !lies(from, to, pool.len()) || !imaged(file, symbols, at, froms, tos, pool.len()) {
+        return REFUSED;
     }
-    REFUSED
+    truth(compare::do_substitute_eq(file, symbols, at, froms, tos, pool, from, to))
 }
 
 // Whether a range is the symbols of a statement as they are.
@@ -179,10 +168,8 @@ pub fn packed_is_spelled(
     ensures bytes { result ≡ compared (lies from to (length pool.now)) from to pool.now (spelling file.now symbols.now at) }
     ensures lists { Says (lies from to (length pool.now)) truth_of (ComparesRaw file.now symbols.now at pool.now from to) result }
 {
-    if from <= to {
-        if to <= pool.len() {
-            return truth(compare::raw_eq(file, symbols, at, pool, from, to));
-        }
+    if !lies(from, to, pool.len()) {
+        return REFUSED;
     }
-    REFUSED
+    truth(compare::raw_eq(file, symbols, at, pool, from, to))
 }

@@ -1,9 +1,9 @@
 -- Our tables, cleared, and what is lent, are as a proof asks them to be.
 use Prim.Native.Nat.{ℕ, ◌/◌, ◌*◌, ◌≤◌, ◌<◌, min}
-use mathlib.Core.Path.{◌≡◌, refl, sym, ◌∙◌, ap}
+use mathlib.Core.Path.{◌≡◌, sym, ◌∙◌, ap}
 use mathlib.Core.List.{List}
 use native.Mathlib.Omega.{arith}
-use lib.ListN.{length, get_or, length-replicate}
+use lib.ListN.{length, length-replicate}
 use Rattle.clearing.specs.Cleared.{cleared}
 use Rattle.clearing.proofs.Clearing.{cleared-zeros}
 use Rattle.frames.specs.Database.{database}
@@ -17,7 +17,7 @@ use Rattle.resolve.proofs.Filing.{filed-length}
 use Rattle.begin.specs.Begins.{Unnumbered, Roomy}
 use Rattle.disjoint.specs.Disjoint.{Cleared}
 use Rattle.apply.specs.Hyps.{Ranged}
-use Rattle.run.specs.Running.{Env, Tables, Sized, env, tables}
+use Rattle.run.specs.Running.{env, tables}
 use Rattle.proof.specs.Whole.{Blank}
 use Rattle.told.specs.Says.{room_lent}
 use Rattle.proving.specs.Ours.{Ours, Cut}
@@ -76,6 +76,10 @@ filed-width {f} w = ap length w.symbols ∙ sym (database-symbols f)
 
 pub width_few : {f syms stmts : List ℕ} → Filed f syms stmts → length syms ≤ 4096
 width_few {f} w = let few = (good-facts f w.good).symbol-count in let width = filed-width w in omega arith
+
+-- it has at most 4,096 statements
+pub statements_few : {f syms stmts : List ℕ} → Filed f syms stmts → length stmts ≤ 4096
+statements_few {f} w = let few = (good-facts f w.good).statement_count in let l = filed-length w in omega arith
 
 -- so much of our tables
 pub cut : (syms : List ℕ) {table seats froms tos sets numbers locals froms' tos' sets' numbers' : List ℕ} → Ours table seats froms tos sets numbers locals → length froms' ≡ length syms

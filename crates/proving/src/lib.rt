@@ -12,7 +12,7 @@ ghost use Rattle.findings.specs.Tells.{Tells};
 ghost use Rattle.told.specs.Says.{room_lent};
 ghost use Rattle.proving.specs.Ours.{Ours, Cut};
 
-use clearing::{clear_words32, clear_words64};
+use clearing::clear;
 use findings::Answer;
 use frames::numbers::StatementNo;
 use proof::verify_proof;
@@ -21,46 +21,22 @@ use told::limits_of;
 pub mod statement;
 
 // Room for the offsets of an index, or for the numbers or the images of all symbols.
-pub fn offsets() -> [u32; 4096]
-    ensures { length result ≡ 4096 }
-{
-    [0; 4096]
-}
+pub const OFFSETS: usize = 4096;
 
 // Room for the disjoint pairs: 256 sets.
-pub fn pair_sets() -> [u64; 1024]
-    ensures { length result ≡ 1024 }
-{
-    [0; 1024]
-}
+pub const PAIR_SETS: usize = 1024;
 
 // Room for the sets of the images of all symbols.
-pub fn image_sets() -> [u64; 16384]
-    ensures { length result ≡ 16384 }
-{
-    [0; 16384]
-}
+pub const IMAGE_SETS: usize = 16384;
 
 // Room for 4,096 local labels.
-pub fn local_labels() -> [u32; 12288]
-    ensures { length result ≡ 12288 }
-{
-    [0; 12288]
-}
+pub const LOCAL_LABELS: usize = 12288;
 
 // Room for the index of labels.
-pub fn label_words() -> [u32; 12288]
-    ensures { length result ≡ 12288 }
-{
-    [0; 12288]
-}
+pub const LABEL_WORDS: usize = 12288;
 
 // Room for the seats of 64 hypotheses.
-pub fn hypothesis_seats() -> [u32; 64]
-    ensures { length result ≡ 64 }
-{
-    [0; 64]
-}
+pub const SEATS: usize = 64;
 
 // The proof of statement p, a $p, whose text is this, over tables that have an entry for each symbol of the file. What they tell of before is cleared first.
 fn prove(
@@ -89,10 +65,10 @@ fn prove(
     requires entries { length tree.old ≤ 131072 }
     ensures { Tells file.now tree.new (run (database file.now) p.0 (limited (room_lent (length pool.old) (length stack.old) (length places.old))) text.now) result }
 {
-    clear_words64(table);
-    clear_words32(froms);
-    clear_words32(tos);
-    clear_words32(numbers);
+    clear(table, 0);
+    clear(froms, 0);
+    clear(tos, 0);
+    clear(numbers, 0);
     let limits = limits_of(pool.len(), stack.len(), places.len());
     verify_proof(
         file, symbols, statements, labels, p, text, table, seats, froms, tos, sets, numbers, pool,

@@ -12,9 +12,7 @@ ghost use Rattle.findings.specs.Tells.{Tells};
 ghost use Rattle.told.specs.Says.{Says, room_lent};
 ghost use Rattle.proving.specs.Ours.{Ours};
 
-use crate::{
-    hypothesis_seats, image_sets, label_words, local_labels, offsets, pair_sets, prove_cut,
-};
+use crate::{IMAGE_SETS, LABEL_WORDS, LOCAL_LABELS, OFFSETS, PAIR_SETS, SEATS, prove_cut};
 use findings::Answer;
 use frames::fields;
 use frames::numbers::StatementNo;
@@ -22,11 +20,7 @@ use label_index::fill;
 use told::{Told, tell};
 
 // Room for no derivation: one tree entry, which holds at most an application without hypotheses.
-fn no_tree() -> [u64; 1]
-    ensures { length result ≡ 1 }
-{
-    [0; 1]
-}
+const NO_TREE: usize = 1;
 
 // The proof of statement p, a $p, whose text is this, is answered. Its derivation is not kept.
 fn answer_proof(
@@ -53,7 +47,7 @@ fn answer_proof(
     requires ours { Ours table.old seats.old froms.old tos.old sets.old numbers.old locals.old }
     ensures { Says (ended (run (database file.now) p.0 (limited (room_lent (length pool.old) (length stack.old) (length places.old))) text.now)) result }
 {
-    let mut tree = no_tree();
+    let mut tree = [0; NO_TREE];
     tell(prove_cut(
         file, symbols, statements, labels, p, text, table, seats, froms, tos, sets, numbers, pool,
         stack, places, locals, &mut tree,
@@ -61,6 +55,7 @@ fn answer_proof(
 }
 
 // Statement p: 8 where it is no $p or there is none, else the answer to its proof.
+// The tables stay slices: this function, which docs/DECISIONS.md names, asks only for their sizes, and a struct of arrays would ask more.
 pub fn answer_statement(
     file: &[u8],
     symbols: &[u32],
@@ -118,14 +113,14 @@ pub fn prove_statement(
     requires entries { length tree.old ≤ 131072 }
     ensures { Tells file.now tree.new (run (database file.now) p.0 (limited (room_lent (length pool.old) (length stack.old) (length places.old))) text.now) result }
 {
-    let mut table = pair_sets();
-    let mut seats = hypothesis_seats();
-    let mut froms = offsets();
-    let mut tos = offsets();
-    let mut sets = image_sets();
-    let mut numbers = offsets();
-    let mut locals = local_labels();
-    let mut labels = label_words();
+    let mut table = [0; PAIR_SETS];
+    let mut seats = [0; SEATS];
+    let mut froms = [0; OFFSETS];
+    let mut tos = [0; OFFSETS];
+    let mut sets = [0; IMAGE_SETS];
+    let mut numbers = [0; OFFSETS];
+    let mut locals = [0; LOCAL_LABELS];
+    let mut labels = [0; LABEL_WORDS];
     fill(file, statements, &mut labels);
     prove_cut(
         file,

@@ -1,6 +1,6 @@
 -- The words that are put into the tree one after another.
 use Prim.Native.Nat.{ℕ, ◌+◌, ◌*◌, ◌≤◌, ◌<◌, ◌%◌}
-use mathlib.Core.Path.{◌≡◌, refl, sym, ◌∙◌, ap}
+use mathlib.Core.Path.{◌≡◌, refl, ◌∙◌}
 use mathlib.Core.Bool.{Bool, true, false}
 use mathlib.Core.List.{List}
 use native.Mathlib.Omega.{arith}
@@ -9,8 +9,6 @@ use lib.Seq.{get_or-set_same, get_or-set_other}
 use Rattle.frames.specs.Logic.{equal, below}
 use Rattle.frames.proofs.Chains.{equal-true, equal-false, below_true, below_false}
 use Rattle.memory.specs.Table.{word}
-use Rattle.tree.specs.Recorded.{SameUpTo}
-use Rattle.recording.specs.declared.Noted.{Noted}
 use Rattle.recording.specs.Notes.{seat_node, PutsNodes, Notes}
 
 -- the word that is read

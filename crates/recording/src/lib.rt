@@ -4,8 +4,7 @@
 ghost use Rattle.std.specs.Prelude.{◌+◌, ◌≤◌, length};
 ghost use Rattle.recording.specs.Notes.{PutsNodes, Notes};
 
-use frames::refer::entry;
-use memory::table::word_at;
+use frames::refer::{entry, entry_or};
 
 // The word of the application that was recorded, and how many tree entries are used then: more than there are where it did not fit.
 #[derive(Clone, Copy)]
@@ -19,11 +18,10 @@ fn put_nodes(stack: &[u64], base: usize, seats: &[u32], n: usize, tree: &mut [u6
     requires { (base ≤ 1024) × (from + n ≤ length tree.old) }
     ensures { PutsNodes stack.now base seats.now n tree.old from tree.new }
 {
-    let mut j = 0;
-    while j < n {
+    // An index: the place in the seats and in the tree at once, a chain would be no plainer.
+    for j in 0..n {
         let i = entry(seats, j) as usize;
-        tree[from + j] = word_at(stack, 10 * (base + i % 64) + 5);
-        j += 1;
+        tree[from + j] = entry_or(stack, 10 * (base + i % 64) + 5, 0);
     }
 }
 

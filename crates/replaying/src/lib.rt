@@ -6,25 +6,22 @@ ghost use Rattle.std.specs.Prelude.{◌≡◌, ℕ, ◌<◌, ◌≤◌, length, 
 ghost use Rattle.std.specs.List.{AllWithin};
 ghost use Rattle.std.specs.Int.{w32, from_le_bytes};
 
-use std::io::{ErrorKind, Read, Result, Write};
+use std::io::{Read, Result, Write};
 
 // The descriptors of standard input and output.
 pub const STDIN_FILENO: i32 = 0;
 
 pub const STDOUT_FILENO: i32 = 1;
 
-// Standard output as a writer. The runtime's own tells why a write failed, for which one more function of C would be assumed (`rattle_errno`). The programs go on after a
-// write that fails: what they wrote is compared.
+// Standard output as a writer. The runtime's own tells why a write failed, for which one more function of C would be assumed (`rattle_errno`). A write that fails is passed
+// over, piece by piece, and the programs go on: what they wrote is compared.
 #[derive(Drop)]
 pub struct Out;
 
 impl Write for Out {
     fn write(&mut self, buf: &[u8]) -> Result<usize> {
-        if io::write_all(STDOUT_FILENO, buf) {
-            Ok(buf.len())
-        } else {
-            Err(ErrorKind::Other.into())
-        }
+        io::write_all(STDOUT_FILENO, buf);
+        Ok(buf.len())
     }
 
     fn flush(&mut self) -> Result<()> {

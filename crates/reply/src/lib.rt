@@ -19,7 +19,7 @@ use filecheck::check;
 use frames::fields;
 use frames::numbers::StatementNo;
 use lines::{put_answer, put_checked, put_refused};
-use proving::offsets;
+use proving::OFFSETS;
 use std::io::Read;
 use walk::{Walked, verify_all};
 
@@ -167,8 +167,8 @@ fn reply_good(file: &[u8], statements: &[u32], out: &mut [u8]) -> Option<usize>
 fn reply_file(file: &[u8], out: &mut [u8]) -> Option<usize>
     ensures { Adds (text_of (verdict file.now) file.now) 0 (length out.old) out.old out.new result }
 {
-    let mut symbols = offsets();
-    let mut statements = offsets();
+    let mut symbols = [0; OFFSETS];
+    let mut statements = [0; OFFSETS];
     match check(file, &mut symbols, &mut statements) {
         Err(away) => put_refused(out, 0, frames::number(away.why), away.place),
         Ok(sizes) => reply_good(file, &statements[..sizes.statements], out),

@@ -42,19 +42,6 @@ chain-skip : {A : Type 0} {t : Bool} {rest : Result A} (why : Refusal) → t ≡
 unfolding unless
 chain-skip why e = rw e refl
 
--- a scope without an end, one that ends later, one that has ended
-pub endless-within : (end p : ℕ) → end ≡ 4294967295 → within end p ≡ true
-unfolding within
-endless-within end p e = sym (either_first _ (equal-yes e) refl)
-
-pub later-within : (end p : ℕ) → (end ≡ 4294967295 → ⊥) → p < end → within end p ≡ true
-unfolding within
-later-within end p n l = sym (either_second (equal-no n) (sym (below-yes l)))
-
-pub ended-within : (end p : ℕ) → (end ≡ 4294967295 → ⊥) → end ≤ p → within end p ≡ false
-unfolding within
-ended-within end p n l = sym (either_second (equal-no n) (sym (below-no l)))
-
 -- the kind and the scope end at an offset as it was read
 pub at-offset-kind : (f : List ℕ) {at o k : ℕ} → k ≡ (statement_at f at).kind → at ≡ o → k ≡ (statement_at f o).kind
 at-offset-kind f e q = e ∙ ap (λ (x : ℕ). (statement_at f x).kind) q

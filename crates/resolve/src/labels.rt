@@ -21,17 +21,7 @@ fn is_essential(file: &[u8], statements: &[u32], s: StatementNo) -> bool
 fn is_listed(file: &[u8], at: u32, h: StatementNo) -> bool
     ensures { result ≡ among (statement_at file.now at).hyps h.0 }
 {
-    let n = fields::hypotheses(file, at);
-    let wanted = h.0;
-    let mut i = 0;
-    while i < n {
-        let listed = fields::hypothesis(file, at, i);
-        if wanted == listed.0 {
-            return true;
-        }
-        i += 1;
-    }
-    false
+    (0..fields::hypotheses(file, at)).any(|i| h.0 == fields::hypothesis(file, at, i).0)
 }
 
 // Whether a label may name statement s in a proof of p: it is no $e, or p lists it.

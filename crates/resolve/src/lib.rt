@@ -29,19 +29,11 @@ pub enum PreparedStep {
 }
 
 // Whether a statement of this kind and scope end is a $f that is out of scope at statement p.
+#[tactic(auto, unfolding(frames::specs::Logic::both, frames::specs::Logic::either, frames::specs::Logic::no, frames::specs::Logic::equal, frames::specs::Logic::below, frames::specs::Table::within))]
 fn out_of_scope(kind: usize, end: usize, p: usize) -> bool
     ensures { result ≡ words.both (words.equal kind 2) (words.no (within end p)) }
 {
-    if kind == 2 {
-        if end == 4294967295 {
-            return false;
-        }
-        if p < end {
-            return false;
-        }
-        return true;
-    }
-    false
+    kind == 2 && !(end == 4294967295 || p < end)
 }
 
 // Statement s as a step in a proof of p: 29, then 30.

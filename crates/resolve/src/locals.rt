@@ -33,13 +33,10 @@ pub fn find_local(text: &[u8], locals: &[u32], count: usize, label: &[u8]) -> Op
     requires { count ≤ 4096 }
     ensures { place_of label.now (locals_of text.now locals.now count) ≡ place_found result }
 {
-    let mut i = 0;
-    while i < count {
-        let local = local_at(text, locals, i);
-        if same_bytes(local, label) {
+    for i in 0..count {
+        if same_bytes(local_at(text, locals, i), label) {
             return Some(PlaceNo(entry(locals, 3 * i + 2) as usize));
         }
-        i += 1;
     }
     None
 }

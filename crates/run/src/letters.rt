@@ -36,7 +36,7 @@ pub fn after_last(outcome: Outcome, steps: usize) -> Read
         Err(why) => {
             let completed = steps;
             Err(Halted {
-                why: why,
+                why,
                 steps: completed,
             })
         }
@@ -56,12 +56,12 @@ pub fn higher_letter(c: Counts, k: usize, d: usize, steps: usize) -> Read
                 can_save: AFTER_DIGIT,
             },
             counts: c,
-            steps: steps,
+            steps,
         });
     }
     Err(Halted {
         why: Refusal::ProofMalformedVarint,
-        steps: steps,
+        steps,
     })
 }
 
@@ -83,21 +83,18 @@ pub fn save_letter(
         return match save_top(stack, places, c, limit) {
             Ok(now) => Ok(Going {
                 mode: Mode::Letters {
-                    k: k,
+                    k,
                     can_save: AFTER_SAVE,
                 },
                 counts: now,
-                steps: steps,
+                steps,
             }),
-            Err(why) => Err(Halted {
-                why: why,
-                steps: steps,
-            }),
+            Err(why) => Err(Halted { why, steps }),
         };
     }
     Err(Halted {
         why: Refusal::ProofInvalidSave,
-        steps: steps,
+        steps,
     })
 }
 
@@ -108,11 +105,11 @@ pub fn incomplete_letter(k: usize, steps: usize) -> Read
     if 0 < k {
         return Err(Halted {
             why: Refusal::ProofMalformedVarint,
-            steps: steps,
+            steps,
         });
     }
     Err(Halted {
         why: Refusal::ProofIncomplete,
-        steps: steps,
+        steps,
     })
 }

@@ -18,7 +18,7 @@ use Rattle.packed.proofs.Written.{take-one-more, range_length}
 use Rattle.memory.specs.declared.Counts.{Counts}
 use Rattle.memory.specs.Shown.{room_of, Shown}
 use Rattle.run.specs.declared.Mode.{Mode}
-use Rattle.run.specs.declared.Mode.TheVariants.{Letters}
+use Rattle.run.specs.declared.Mode.TheVariants.{Beginning, Normal, Roster, Letters}
 use Rattle.run.specs.Read.{Read, Go, Stop}
 use Rattle.run.proofs.Parts.{go-parts, stop-parts}
 use Rattle.run_bytes.specs.declared.State.{State}
@@ -109,6 +109,13 @@ letter-byte {e} {t} {t'} {s} {k} {at} {b} {saves} mode reads next =
   where
     letters-mode : mode_of (Letters k saves) ≡ machine.in_letters k saves
     letters-mode = mode_of-letters k saves
+
+-- a mode that is not that of the letters is before them
+pub plain-else : (mode : Mode) → ((k : ℕ) (saves : Bool) → mode ≡ Letters k saves → ⊥) → Plain mode
+plain-else Beginning other = beginning
+plain-else Normal other = normal
+plain-else Roster other = roster
+plain-else (Letters k saves) other = absurd (other k saves refl)
 
 -- before the letters a byte is one more of the token, or a divider
 by-plain : (db : Database) (p : ℕ) (room : Room) (m : Memory) {mode : Mode} (token : List ℕ) (at b : ℕ) → Plain mode

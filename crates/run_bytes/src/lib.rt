@@ -53,7 +53,7 @@ fn after(read: Read, at: usize, place: usize) -> Next
         }),
         Err(halted) => Err(Stopped {
             why: halted.why,
-            place: place,
+            place,
             steps: halted.steps,
         }),
     }
@@ -117,19 +117,18 @@ fn end_token(
     tree: &mut [u64],
     limits: Limits,
     s: State,
-    mode: Mode,
     at: usize,
 ) -> Next
     requires labelled { Labelled file.now statements.now labels.now }
     requires running { Running (env file.now symbols.now statements.now p.0 text.now table.now limits) (tables seats.old froms.old tos.old sets.old numbers.old pool.old stack.old places.old locals.old tree.old) s.counts }
-    requires low { ((Low mode × (s.steps ≤ 65536)) × ((s.mode ≡ mode) × Plain mode)) × (((s.token < at) × (at < length text.now)) × (reading.divider (get_or text.now at 0) ≡ true)) }
+    requires low { ((Low s.mode × (s.steps ≤ 65536)) × Plain s.mode) × (((s.token < at) × (at < length text.now)) × (reading.divider (get_or text.now at 0) ≡ true)) }
     ensures { ReadsByte (env file.now symbols.now statements.now p.0 text.now table.now limits) (tables seats.old froms.old tos.old sets.old numbers.old pool.old stack.old places.old locals.old tree.old) (tables seats.new froms.new tos.new sets.new numbers.new pool.new stack.new places.new locals.new tree.new) s at (get_or text.now at 0) result }
 {
     let c = s.counts;
     let from = s.token;
     let read = on_token(
-        mode, file, symbols, statements, labels, p, text, table, seats, froms, tos, sets, numbers,
-        pool, stack, places, locals, tree, from, at, c, limits, s.steps,
+        s.mode, file, symbols, statements, labels, p, text, table, seats, froms, tos, sets,
+        numbers, pool, stack, places, locals, tree, from, at, c, limits, s.steps,
     );
     after(read, at, from)
 }
@@ -155,28 +154,21 @@ fn plain_byte(
     tree: &mut [u64],
     limits: Limits,
     s: State,
-    mode: Mode,
     at: usize,
 ) -> Next
     requires labelled { Labelled file.now statements.now labels.now }
     requires running { Running (env file.now symbols.now statements.now p.0 text.now table.now limits) (tables seats.old froms.old tos.old sets.old numbers.old pool.old stack.old places.old locals.old tree.old) s.counts }
-    requires low { ((Low mode × (s.steps ≤ 65536)) × ((s.mode ≡ mode) × Plain mode)) × ((s.token ≤ at) × (at < length text.now)) }
+    requires low { ((Low s.mode × (s.steps ≤ 65536)) × Plain s.mode) × ((s.token ≤ at) × (at < length text.now)) }
     ensures { ReadsByte (env file.now symbols.now statements.now p.0 text.now table.now limits) (tables seats.old froms.old tos.old sets.old numbers.old pool.old stack.old places.old locals.old tree.old) (tables seats.new froms.new tos.new sets.new numbers.new pool.new stack.new places.new locals.new tree.new) s at (get_or text.now at 0) result }
 {
     if divider(text[at]) {
         if s.token < at {
             return end_token(
                 file, symbols, statements, labels, p, text, table, seats, froms, tos, sets,
-                numbers, pool, stack, places, locals, tree, limits, s, mode, at,
+                numbers, pool, stack, places, locals, tree, limits, s, at,
             );
         }
-        let c = s.counts;
-        return Ok(State {
-            mode: mode,
-            token: at + 1,
-            steps: s.steps,
-            counts: c,
-        });
+        return Ok(State { token: at + 1, ..s });
     }
     Ok(s)
 }
@@ -209,80 +201,14 @@ fn on_byte(
     requires low { (Low s.mode × (s.steps ≤ 65536)) × ((s.token ≤ at) × (at < length text.now)) }
     ensures { ReadsByte (env file.now symbols.now statements.now p.0 text.now table.now limits) (tables seats.old froms.old tos.old sets.old numbers.old pool.old stack.old places.old locals.old tree.old) (tables seats.new froms.new tos.new sets.new numbers.new pool.new stack.new places.new locals.new tree.new) s at (get_or text.now at 0) result }
 {
-    let mode = s.mode;
-    match mode {
+    match s.mode {
         Mode::Letters { k, can_save } => letter_byte(
             file, symbols, statements, p, text, table, seats, froms, tos, sets, numbers, pool,
             stack, places, locals, tree, limits, s, k, can_save, at,
         ),
-        Mode::Beginning => plain_byte(
-            file,
-            symbols,
-            statements,
-            labels,
-            p,
-            text,
-            table,
-            seats,
-            froms,
-            tos,
-            sets,
-            numbers,
-            pool,
-            stack,
-            places,
-            locals,
-            tree,
-            limits,
-            s,
-            Mode::Beginning,
-            at,
-        ),
-        Mode::Normal => plain_byte(
-            file,
-            symbols,
-            statements,
-            labels,
-            p,
-            text,
-            table,
-            seats,
-            froms,
-            tos,
-            sets,
-            numbers,
-            pool,
-            stack,
-            places,
-            locals,
-            tree,
-            limits,
-            s,
-            Mode::Normal,
-            at,
-        ),
-        Mode::Roster => plain_byte(
-            file,
-            symbols,
-            statements,
-            labels,
-            p,
-            text,
-            table,
-            seats,
-            froms,
-            tos,
-            sets,
-            numbers,
-            pool,
-            stack,
-            places,
-            locals,
-            tree,
-            limits,
-            s,
-            Mode::Roster,
-            at,
+        _ => plain_byte(
+            file, symbols, statements, labels, p, text, table, seats, froms, tos, sets, numbers,
+            pool, stack, places, locals, tree, limits, s, at,
         ),
     }
 }

@@ -103,12 +103,9 @@ pub fn on_letter(
         Letter::Save => save_letter(stack, places, c, limits.places, k, saves, steps),
         Letter::Incomplete => incomplete_letter(k, steps),
         Letter::Ignored => Ok(Going {
-            mode: Mode::Letters {
-                k: k,
-                can_save: saves,
-            },
+            mode: Mode::Letters { k, can_save: saves },
             counts: c,
-            steps: steps,
+            steps,
         }),
     }
 }

@@ -160,7 +160,7 @@ fn on_normal(
     if is_token(text, from, to, 63) {
         return Err(Halted {
             why: Refusal::ProofIncomplete,
-            steps: steps,
+            steps,
         });
     }
     let done = steps + 1;
@@ -191,7 +191,7 @@ fn in_roster(outcome: Outcome, steps: usize) -> Read
         Ok(now) => Ok(Going {
             mode: Mode::Roster,
             counts: now,
-            steps: steps,
+            steps,
         }),
         Err(because) => Err(Halted {
             why: because,
@@ -291,7 +291,7 @@ pub fn on_token(
                         can_save: false,
                     },
                     counts: c,
-                    steps: steps,
+                    steps,
                 });
             }
             let outcome = prepare_roster(
@@ -310,12 +310,9 @@ pub fn on_token(
             in_roster(outcome, steps)
         }
         Mode::Letters { k, can_save } => Ok(Going {
-            mode: Mode::Letters {
-                k: k,
-                can_save: can_save,
-            },
+            mode: Mode::Letters { k, can_save },
             counts: c,
-            steps: steps,
+            steps,
         }),
     }
 }

@@ -14,7 +14,7 @@ use Rattle.machine.specs.Apply.{unmarked_first, unmarked, arranged}
 use Rattle.memory.specs.Table.{word}
 use Rattle.memory.specs.Shown.{Along, ends, next}
 use Rattle.seats.specs.declared.arrange.Taken.{Taken}
-use Rattle.seats.specs.Marks.{Takes, by_mark, in_order, none_left, TakesSeat}
+use Rattle.seats.specs.Marks.{marked_nowhere, marked_at, all_marked, unmarked_at, Takes, by_mark, in_order, none_left, TakesSeat}
 use Rattle.seats.specs.Seats.{MarkShown, Nth, first, later, SeatShown, Fills, InOrder}
 use Rattle.seats.proofs.Marking.{mark-none, mark-some, marked-found, marked-nowhere}
 use Rattle.seats.proofs.Counting.{arranged-marked, arranged-next, arranged-out}
@@ -156,25 +156,24 @@ module _ {labels : List (List ℕ)} {text stack : List ℕ} {base : ℕ} {es : L
     -- one more seat
     pub filling-more : {label : List ℕ} {to : ℕ} {t : Taken} → base ≤ u → to ≡ base + length es → Here labels j label → j < length labels
         → Takes text stack base to u label t → base ≤ t.row → t.row < to → Filling labels text stack base (j + 1) t.next es (set seats j (t.row - base))
-    filling-more {label} {to} {t} low size here inside (by_mark m h e) at_least_lem at_most =
-        let found = marked-found label all at_least_lem (omega arith) m.passed (m.found h) in
+    filling-more {label} {to} {t} low size here inside (by_mark (marked_at start before passed is) e) at_least_lem at_most =
+        let found = marked-found label all at_least_lem (omega arith) passed is in
         rw e
         (filling-seat (t.row - base) u found.entry f.left found.nth
         (rw here.is (arranged-marked label _ es _ found.is)) f.shown f.end f.nths)
-    filling-more {label} {to} {t} low size here inside (in_order m g h e) at_least_lem at_most =
-        let absent = marked-nowhere label all (λ r a b. m.passed r a (omega arith)) in
+    filling-more {label} {to} {t} low size here inside (in_order (marked_nowhere nowhere) (unmarked_at begin before passed is) e) at_least_lem at_most =
+        let absent = marked-nowhere label all (λ r a b. nowhere r a (omega arith)) in
         let z = f.end in
-        let free = freed f.shown g.low (omega arith) g.passed (g.found h) in
+        let free = freed f.shown begin (omega arith) passed is in
         let y = free.end in
-        let x = g.low in
         rw e
         (filling-seat (t.row - base) (t.row + 1) free.entry free.others (f.nths (t.row - u) (t.row - base) _ (omega arith) free.nth)
         (rw (here.is, free.is) (arranged-next label _ es _ _ absent)) free.shown (omega arith)
         (λ i k x q n. f.nths (i + (t.row + 1 - u)) k x (omega arith) (free.nths i _ x refl n)))
-    filling-more {label} {to} {t} low size here inside (none_left m g) at_least_lem at_most =
-        let absent = marked-nowhere label all (λ r a b. m.passed r a (omega arith)) in
+    filling-more {label} {to} {t} low size here inside (none_left (marked_nowhere nowhere) (all_marked passed)) at_least_lem at_most =
+        let absent = marked-nowhere label all (λ r a b. nowhere r a (omega arith)) in
         let z = f.end in
-        let out = none_free f.shown (λ r a b. g.passed r a (omega arith)) in
+        let out = none_free f.shown (λ r a b. passed r a (omega arith)) in
         let gone : arranged (drop j labels) es (unmarked f.left) ≡ [] = rw (here.is, out) (arranged-out label _ es absent) in
         let n = ap length gone in
         let s = f.sized in

@@ -19,23 +19,15 @@ fn take_seat(text: &[u8], stack: &[u64], base: usize, to: usize, next: usize, la
     requires { ((base < to) × (to < 70000)) × ((base ≤ next) × (next ≤ to)) }
     ensures { TakesSeat text.now stack.now base to next label.now result }
 {
-    let row = find_marked(text, stack, base, to, label);
-    if row < to {
-        return Taken {
-            row: row,
-            next: next,
-        };
-    }
-    let free = next_unmarked(stack, next, to);
-    if free < to {
-        return Taken {
-            row: free,
-            next: free + 1,
-        };
-    }
-    Taken {
-        row: base,
-        next: to,
+    match find_marked(text, stack, base, to, label) {
+        Some(row) => Taken { row, next },
+        None => match next_unmarked(stack, next, to) {
+            Some(row) => Taken { row, next: row + 1 },
+            None => Taken {
+                row: base,
+                next: to,
+            },
+        },
     }
 }
 
@@ -55,14 +47,13 @@ pub fn fill_seats(
 {
     let to = base + count;
     let mut next = base;
-    let mut j = 0;
-    while j < count {
+    // An index: the number of the hypothesis and the place of its seat at once, a chain would be no plainer.
+    for j in 0..count {
         let o = hypothesis_offset(file, statements, at, j);
         let t = take_seat(text, stack, base, to, next, fields::label(file, o));
         let i = t.row - base;
         seats[j] = i as u32;
         next = t.next;
-        j += 1;
     }
 }
 
@@ -71,9 +62,7 @@ pub fn seat_in_order(count: usize, seats: &mut [u32])
     requires { (count ≤ 64) × (64 ≤ length seats.old) }
     ensures { InOrder count seats.new }
 {
-    let mut j = 0;
-    while j < count {
+    for j in 0..count {
         seats[j] = j as u32;
-        j += 1;
     }
 }

@@ -9,18 +9,16 @@ ghost use Rattle.seats.specs.Seats.{ChecksMarks};
 
 use frames::fields;
 use frames::read::part;
+use frames::refer::entry_or;
 use frames::text::same_bytes;
 use machine::Refusal;
-use memory::table::word_at;
 
 // The bytes of the text from `from` up to `end`.
+#[tactic(auto, unfolding(packed::specs::Pool::range))]
 fn span(text: &[u8], from: usize, end: usize) -> &[u8]
     ensures { result.now ≡ range from end text.now }
 {
-    if from <= end {
-        return part(text, from, end - from);
-    }
-    part(text, from, 0)
+    part(text, from, end.saturating_sub(from))
 }
 
 // Whether row k has this mark.
@@ -28,42 +26,42 @@ fn is_marked(text: &[u8], stack: &[u64], k: usize, label: &[u8]) -> bool
     requires { k < 70000 }
     ensures { result ≡ is_marked label.now (row_mark text.now stack.now k) }
 {
-    let tag = word_at(stack, 10 * k + 3) as usize;
-    let end = word_at(stack, 10 * k + 4) as usize;
+    let tag = entry_or(stack, 10 * k + 3, 0) as usize;
+    let end = entry_or(stack, 10 * k + 4, 0) as usize;
     if tag == 0 {
         return false;
     }
     same_bytes(span(text, tag - 1, end), label)
 }
 
-// The first row from `from` on that has this mark; `to` where none before `to` has.
-pub fn find_marked(text: &[u8], stack: &[u64], from: usize, to: usize, label: &[u8]) -> usize
+// The first row from `from` on that has this mark, where one before `to` has.
+pub fn find_marked(
+    text: &[u8],
+    stack: &[u64],
+    from: usize,
+    to: usize,
+    label: &[u8],
+) -> Option<usize>
     requires { (from ≤ to) × (to < 70000) }
     ensures { FirstMarked text.now stack.now label.now from to result }
 {
-    let mut k = from;
-    while k < to {
-        if is_marked(text, stack, k, label) {
-            return k;
-        }
-        k += 1;
-    }
-    k
+    (from..to).find(
+        |&k|
+            requires { k < 70000 }
+        { is_marked(text, stack, k, label) },
+    )
 }
 
-// The first row from `from` on without a mark; `to` where all before `to` have one.
-pub fn next_unmarked(stack: &[u64], from: usize, to: usize) -> usize
+// The first row from `from` on without a mark, where one before `to` has none.
+pub fn next_unmarked(stack: &[u64], from: usize, to: usize) -> Option<usize>
     requires { (from ≤ to) × (to < 70000) }
     ensures { FirstUnmarked stack.now from to result }
 {
-    let mut k = from;
-    while k < to {
-        if word_at(stack, 10 * k + 3) == 0 {
-            return k;
-        }
-        k += 1;
-    }
-    k
+    (from..to).find(
+        |&k|
+            requires { k < 70000 }
+        { entry_or(stack, 10 * k + 3, 0) == 0 },
+    )
 }
 
 // Whether no row from `from` up to `to` has a mark.
@@ -71,14 +69,11 @@ pub fn none_marked(stack: &[u64], from: usize, to: usize) -> bool
     requires { (from ≤ to) × (to < 70000) }
     ensures { NoneMarked stack.now from to result }
 {
-    let mut k = from;
-    while k < to {
-        if word_at(stack, 10 * k + 3) != 0 {
-            return false;
-        }
-        k += 1;
-    }
-    true
+    (from..to).all(
+        |k|
+            requires { k < 70000 }
+        { entry_or(stack, 10 * k + 3, 0) == 0 },
+    )
 }
 
 // Where the record of the i-th hypothesis of the statement at `at` lies.
@@ -93,16 +88,10 @@ pub fn hypothesis_offset(file: &[u8], statements: &[u32], at: u32, i: usize) -> 
 fn names_hypothesis(file: &[u8], statements: &[u32], at: u32, mark: &[u8]) -> bool
     ensures { result ≡ names (labels_at file.now statements.now at) mark.now }
 {
-    let n = fields::hypotheses(file, at);
-    let mut i = 0;
-    while i < n {
+    (0..fields::hypotheses(file, at)).any(|i| {
         let o = hypothesis_offset(file, statements, at, i);
-        if same_bytes(mark, fields::label(file, o)) {
-            return true;
-        }
-        i += 1;
-    }
-    false
+        same_bytes(mark, fields::label(file, o))
+    })
 }
 
 // The mark of row k: 33 where it names no hypothesis, 34 where a row from `base` on has it already.
@@ -118,17 +107,17 @@ fn check_mark(
     requires { (base ≤ k) × (k < 70000) }
     ensures { Checks (labels_at file.now statements.now at) text.now stack.now base k result }
 {
-    let tag = word_at(stack, 10 * k + 3) as usize;
+    let tag = entry_or(stack, 10 * k + 3, 0) as usize;
     if tag == 0 {
         return Ok(());
     }
-    let end = word_at(stack, 10 * k + 4) as usize;
+    let end = entry_or(stack, 10 * k + 4, 0) as usize;
     let mark = span(text, tag - 1, end);
     if names_hypothesis(file, statements, at, mark) {
-        if find_marked(text, stack, base, k, mark) < k {
-            return Err(Refusal::DuplicateExplicitLabel);
-        }
-        return Ok(());
+        return match find_marked(text, stack, base, k, mark) {
+            Some(_) => Err(Refusal::DuplicateExplicitLabel),
+            None => Ok(()),
+        };
     }
     Err(Refusal::BadExplicitLabel)
 }

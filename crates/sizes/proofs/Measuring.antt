@@ -7,8 +7,7 @@ use native.Mathlib.Numerals.{add-one}
 use native.Mathlib.Omega.{arith}
 use lib.ListN.{length, get_or, set, length-set}
 use lib.Seq.{get_or-set_same, get_or-set_other}
-use Rattle.book.specs.Book.{Tree, leaf, node, Forest, empty, and}
-use Rattle.frames.specs.Logic.{below, equal, pick}
+use Rattle.book.specs.Book.{Tree, node, Forest}
 use Rattle.frames.specs.Layout.{next_at}
 use Rattle.frames.specs.Database.{Statement, database, statement_at, GoodFile}
 use Rattle.frames.specs.Facts.{statement_of}

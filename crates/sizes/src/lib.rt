@@ -2,47 +2,26 @@
 // A shared part is never walked twice. Sizes are told apart up to 65,538, so that no sum overflows.
 #![tactic(auto)]
 
-ghost use Rattle.std.specs.Prelude.{◌≡◌, ◌+◌, ◌≤◌, ◌<◌, min, length, get_or};
+ghost use Rattle.std.specs.Prelude.{◌≡◌, ◌+◌, ◌≤◌, ◌<◌, length};
 ghost use Rattle.sizes.specs.Measured.{capped, offset_of, label_size_at, size_at, words_at, application_size, measured_from, Measures};
 
 use frames::fields;
-use frames::refer::entry;
-
-// The i-th entry; 0 past the end.
-fn word_at(tree: &[u64], i: usize) -> u64
-    ensures { result ≡ get_or tree.now i 0 }
-{
-    if i < tree.len() { tree[i] } else { 0 }
-}
+use frames::refer::{entry, entry_or};
 
 // An entry as an offset.
+#[tactic(auto, unfolding(crate::specs::Measured::offset_of))]
 fn offset(word: u64) -> u32
     ensures { result ≡ offset_of word }
 {
-    if word < 4294967295 {
-        word as u32
-    } else {
-        4294967295
-    }
-}
-
-// The lesser of two numbers.
-fn least(a: usize, b: usize) -> usize
-    ensures { result ≡ min a b }
-{
-    if a < b { a } else { b }
+    u32::try_from(word).unwrap_or(u32::MAX)
 }
 
 // The sum of two sizes.
+#[tactic(auto, unfolding(crate::specs::Measured::capped))]
 pub fn add_capped(a: usize, b: usize) -> usize
     ensures { result ≡ capped (a + b) }
 {
-    if a < 65538 {
-        if b < 65538 - a {
-            return a + b;
-        }
-    }
-    65538
+    a.saturating_add(b).min(65538)
 }
 
 // The size of the label of the statement at this offset, with one space.
@@ -68,7 +47,7 @@ pub fn size_of(file: &[u8], sizes: &[u32], word: u64) -> usize
 fn words_at(file: &[u8], tree: &[u64], from: usize) -> usize
     ensures { (result ≡ words_at file.now tree.now from) × (result < 65536) }
 {
-    let at = offset(word_at(tree, from));
+    let at = offset(entry_or(tree, from, 0));
     fields::hypotheses(file, at)
 }
 
@@ -78,12 +57,10 @@ fn measure_one(file: &[u8], tree: &[u64], from: usize, sizes: &[u32]) -> usize
     ensures { result ≡ application_size file.now tree.now sizes.now from }
 {
     let n = words_at(file, tree, from);
-    let mut sum = label_size(file, word_at(tree, from));
-    let mut i = 0;
-    while i < n {
-        let word = word_at(tree, from + 1 + i);
+    let mut sum = label_size(file, entry_or(tree, from, 0));
+    for i in 0..n {
+        let word = entry_or(tree, from + 1 + i, 0);
         sum = add_capped(sum, size_of(file, sizes, word));
-        i += 1;
     }
     sum
 }
@@ -93,6 +70,7 @@ fn measure_to(file: &[u8], tree: &[u64], n: usize, sizes: &mut [u32])
     requires { n ≤ length sizes.old }
     ensures { sizes.new ≡ measured_from file.now tree.now n n 0 sizes.old }
 {
+    // A cursor: each turn moves it on by as many entries as the application has.
     let mut at = 0;
     while at < n {
         let size = measure_one(file, tree, at, sizes);
@@ -105,6 +83,6 @@ fn measure_to(file: &[u8], tree: &[u64], n: usize, sizes: &mut [u32])
 pub fn measure(file: &[u8], tree: &[u64], n: usize, sizes: &mut [u32])
     ensures { Measures file.now tree.now n sizes.old sizes.new }
 {
-    let end = least(n, sizes.len());
+    let end = n.min(sizes.len());
     measure_to(file, tree, end, sizes);
 }

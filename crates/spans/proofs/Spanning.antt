@@ -85,6 +85,11 @@ module _ (text : List ℕ) (from to : ℕ) where
         go (yes h) (no no-l) = stands-first (omega arith) b sized h (omega arith) (local-first c e (omega arith) (omega (arith, range_length from to text rises within)))
         go (no no-h) _ = stands-none (omega arith) b (omega arith) (local-none c e (omega (arith, range_length from to text rises within)))
 
+-- the same span for the same numbers
+pub before-same : {from size own other size' own' other' : ℕ} {r : Span} → size ≡ size' → own ≡ own' → other ≡ other' → Before from size own other r
+    → Before from size' own' other' r
+before-same p q s b = rw (← p, ← q, ← s) b
+
 -- what a tag tells: there is no part, or it is this part of the text
 module _ {text : List ℕ} {part : Option (List ℕ)} {r : Span} (s : StandsFor text part r) where
   pub stands-absent : r.tag ≡ 0 → part ≡ none

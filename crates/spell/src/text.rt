@@ -1,13 +1,13 @@
 // Writing the labels of a derivation in post-order, from the end to the front: the label of the word on top goes right before what is written, with one space between;
 // the words below it take its place, so that the last one is next.
-ghost use Rattle.std.specs.Prelude.{◌≡◌, ◌∷◌, ◌+◌, ◌≤◌, ◌<◌, length, set};
+ghost use Rattle.std.specs.Prelude.{◌≡◌, ◌∷◌, ◌+◌, ◌≤◌, length, set};
 ghost use Rattle.frames.specs.Database.{statement_at};
-ghost use Rattle.packed.specs.Pool.{written};
 ghost use Rattle.spell.specs.Words.{offset_of};
 ghost use Rattle.spell.specs.Text.{Puts, WritesPending, WritesText};
 
-use crate::words::{offset_of, push_words, word_at};
+use crate::words::{offset_of, push_words};
 use frames::fields;
+use frames::refer::entry_or;
 
 // The label of the statement that a word names.
 fn label_of<'a>(file: &'a [u8], tree: &[u64], word: u64) -> &'a [u8]
@@ -26,18 +26,6 @@ fn put_space(out: &mut [u8], at: usize)
     }
 }
 
-// Puts a text into the output at `at`.
-fn put_bytes(out: &mut [u8], at: usize, text: &[u8])
-    requires { at + length text.now ≤ length out.old }
-    ensures { out.new ≡ written text.now at out.old }
-{
-    let mut i = 0;
-    while i < text.len() {
-        out[at + i] = text[i];
-        i += 1;
-    }
-}
-
 // Puts a label and the space before it so that they end right before byte `end` of a space and the output; nothing where that is too far in front. Gives where they
 // begin.
 fn put_label(out: &mut [u8], end: usize, label: &[u8]) -> usize
@@ -50,7 +38,7 @@ fn put_label(out: &mut [u8], end: usize, label: &[u8]) -> usize
     }
     let at = end - n - 1;
     put_space(out, at);
-    put_bytes(out, at, label);
+    out[at..at + n].copy_from_slice(label);
     at
 }
 
@@ -66,6 +54,7 @@ fn write_pending(
     requires { (depth ≤ length pending.old) × (size ≤ length out.old) }
     ensures { WritesPending file.now tree.now pending.old depth size out.old out.new }
 {
+    // A stack: each turn takes its top and puts the words below that one, so no range or slice is walked.
     let mut left = depth;
     let mut end = size + 1;
     while 0 < end {
@@ -73,7 +62,7 @@ fn write_pending(
             return;
         }
         left -= 1;
-        let word = word_at(pending, left);
+        let word = entry_or(pending, left, 0);
         end = put_label(out, end, label_of(file, tree, word));
         left = push_words(file, tree, word, pending, left);
     }
@@ -93,7 +82,7 @@ pub fn write_text(
     if out.len() < size {
         return;
     }
-    if pending.len() == 0 {
+    if pending.is_empty() {
         return;
     }
     pending[0] = word;

@@ -1,22 +1,17 @@
 // The words of a recorded derivation: the statement that a word names, and the words that an application is made of, put on top of those that are pending.
-ghost use Rattle.std.specs.Prelude.{◌≡◌, ◌+◌, ◌^◌, ◌≤◌, ◌<◌, length, get_or};
+ghost use Rattle.std.specs.Prelude.{◌≡◌, ◌+◌, ◌^◌, ◌≤◌, ◌<◌, length};
 ghost use Rattle.packed.specs.Pool.{written};
 ghost use Rattle.spell.specs.Words.{as_offset, offset_of, entries_from, words_below, PushesWords};
 
 use frames::fields::hypotheses;
-
-// The i-th word of a table; 0 past its end.
-pub fn word_at(table: &[u64], i: usize) -> u64
-    ensures { result ≡ get_or table.now i 0 }
-{
-    if i < table.len() { table[i] } else { 0 }
-}
+use frames::refer::entry_or;
 
 // A number as an offset; 0 for one that is too large.
+#[tactic(auto, unfolding(crate::specs::Words::as_offset, frames::specs::Logic::pick, frames::specs::Logic::below))]
 fn as_offset(n: u64) -> u32
     ensures { result ≡ as_offset n }
 {
-    if n < 4294967296 { n as u32 } else { 0 }
+    u32::try_from(n).unwrap_or(0)
 }
 
 // The offset of the statement that a word names: the hypothesis, or the assertion that is applied.
@@ -26,7 +21,7 @@ pub fn offset_of(tree: &[u64], word: u64) -> u32
     if word % 2 == 0 {
         return as_offset(word / 2);
     }
-    as_offset(word_at(tree, (word / 2) as usize))
+    as_offset(entry_or(tree, (word / 2) as usize, 0))
 }
 
 // Puts n words of the tree entries, from `from` on, into a table at `at`.
@@ -34,10 +29,9 @@ fn put_words(tree: &[u64], from: usize, n: usize, table: &mut [u64], at: usize)
     requires { (from + n < 2 ^ 64) × (at + n ≤ length table.old) }
     ensures { table.new ≡ written (entries_from tree.now from n) at table.old }
 {
-    let mut i = 0;
-    while i < n {
-        table[at + i] = word_at(tree, from + i);
-        i += 1;
+    // An index: the place in two tables at once, a chain would be no plainer.
+    for i in 0..n {
+        table[at + i] = entry_or(tree, from + i, 0);
     }
 }
 

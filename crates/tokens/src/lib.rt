@@ -50,7 +50,7 @@ pub fn letter(b: u8) -> Letter
     }
 }
 
-// Where the first of a sign stands in a token; the token's length where there is none.
+// Where the first of a sign stands in a token; the token's length where there is none, and no Option: `sign_at` says so, and the parts of a token are cut there.
 pub fn find(token: &[u8], sign: u8) -> usize
     ensures { result ≡ sign_at sign token.now }
 {

@@ -1,19 +1,15 @@
 -- What is told of a proof's answer, and the room that is lent.
 use Rattle.std.proofs.Common.{Err}
-use Prim.Native.Nat.{ℕ, ◌/◌, min}
+use Prim.Native.Nat.{ℕ}
 use mathlib.Core.List.{List}
-use mathlib.Core.Path.{◌≡◌, refl, sym, ◌∙◌, ap}
+use mathlib.Core.Path.{◌≡◌, refl}
 use Rattle.machine.specs.Answer.{refusal_number, number, place, steps}
 use Rattle.machine.specs.Bench.{ended}
-use Rattle.machine.specs.Memory.{limited}
 use Rattle.machine.specs.Run.{State}
-use Rattle.memory.specs.declared.Limits.{Limits}
-use Rattle.memory.specs.Shown.{room_of}
 use Rattle.run_bytes.specs.declared.Stopped.{Stopped}
-use Rattle.findings.specs.Answers.{Answer, Accepted}
+use Rattle.findings.specs.Answers.{Accepted}
 use Rattle.findings.specs.Tells.{Tells, accepts, refuses}
-use Rattle.told.specs.declared.Told.{Told}
-use Rattle.told.specs.Says.{Says, SaysAs, room_lent}
+use Rattle.told.specs.Says.{Says, SaysAs}
 
 accepted-says : {f entries : List ℕ} {at done word nodes : ℕ} {s : State} → Tells f entries s (Accepted at done word nodes) → Says (ended s) (record { number = 0; place = at; steps = done })
 unfolding ended number place steps
@@ -29,8 +25,3 @@ accepted-told = record { says = λ f entries s t. accepted-says t }
 
 pub refused-told : {x : Stopped} {n : ℕ} → n ≡ refusal_number x.why → SaysAs (Err x) (record { number = n; place = x.place; steps = x.steps })
 refused-told e = record { says = λ f entries s t. refused_says e t }
-
-pub room-limited : {a b c : ℕ} (pool stack places : ℕ) → a ≡ min pool 65536 → b ≡ min (stack / 10) 1024 → c ≡ min (places / 10) 4096
-    → room_of (record { pool = a; stack = b; places = c }) ≡ limited (room_lent pool stack places)
-unfolding limited room_lent
-room-limited pool stack places p s q = cc

@@ -2,7 +2,7 @@
 // What is told of a proof's answer, and how much of what is lent is used.
 #![tactic(auto)]
 
-ghost use Rattle.std.specs.Prelude.{◌≡◌, min};
+ghost use Rattle.std.specs.Prelude.{◌≡◌};
 ghost use Rattle.machine.specs.Memory.{limited};
 ghost use Rattle.memory.specs.Shown.{room_of};
 ghost use Rattle.told.specs.Says.{SaysAs, room_lent};
@@ -11,7 +11,7 @@ use answers::refusal_number;
 use findings::Answer;
 use memory::Limits;
 
-// What the bench answers: number, place, completed steps.
+// What the bench answers: number, place, completed steps. The number is no enum: it is document 01's answer, 0 to 61, which `Says` gives and C is handed.
 #[derive(Clone, Copy)]
 pub struct Told {
     pub number: usize,
@@ -33,7 +33,7 @@ pub fn tell(answer: Answer) -> Told
             let why = x.why;
             let number = refusal_number(why);
             Told {
-                number: number,
+                number,
                 place: x.place,
                 steps: x.steps,
             }
@@ -41,22 +41,14 @@ pub fn tell(answer: Answer) -> Told
     }
 }
 
-fn least(a: usize, b: usize) -> usize
-    ensures { result ≡ min a b }
-{
-    if a < b {
-        return a;
-    }
-    b
-}
-
 // How much of what is lent is used: at most 65,536 bytes, 1,024 entries and 4,096 places. An entry and a place have ten words each.
+#[tactic(auto, unfolding(machine::specs::Memory::limited, crate::specs::Says::room_lent))]
 pub fn limits_of(pool: usize, stack: usize, places: usize) -> Limits
     ensures { room_of result ≡ limited (room_lent pool stack places) }
 {
     Limits {
-        pool: least(pool, 65536),
-        stack: least(stack / 10, 1024),
-        places: least(places / 10, 4096),
+        pool: pool.min(65536),
+        stack: (stack / 10).min(1024),
+        places: (places / 10).min(4096),
     }
 }

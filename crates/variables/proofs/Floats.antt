@@ -14,21 +14,22 @@ use Rattle.frames.proofs.Chains.{equal-yes, equal-no}
 use Rattle.machine.specs.Ground.{add_if, is_float, mandatory}
 use Rattle.machine.specs.Run.{all_numbered}
 use Rattle.machine.specs.Prepare.{numbered}
-use Rattle.variables.specs.Numbering.{Maps, MapsAll, floats_at}
+use Rattle.variables.specs.Numbering.{Maps, MapsAll, float_at, floats_at}
 use Rattle.variables.proofs.Pairs.{all_none, all_more}
 
-pub float-yes : (f stmts : List ℕ) (h o k v : ℕ) → o ≡ get_or stmts h 0 → k ≡ (statement_at f o).kind → k ≡ 2
-    → v ≡ get_or (statement_at f o).symbols 1 0 → v ∷ [] ≡ floats_at f stmts (h ∷ [])
-unfolding floats_at add_if is_float floated
-float-yes f stmts h o k v e c two i =
-    let is : equal (statement_at f (get_or stmts h 0)).kind 2 ≡ true = equal-yes (ap (λ (x : ℕ). (statement_at f x).kind) (sym e) ∙ sym c ∙ two) in
-    rw is (ap (λ (x : ℕ). x ∷ []) (i ∙ ap (λ (x : ℕ). get_or (statement_at f x).symbols 1 0) e))
+pub float-yes : (f : List ℕ) (at k v : ℕ) → k ≡ (statement_at f at).kind → k ≡ 2 → v ≡ get_or (statement_at f at).symbols 1 0
+    → v ∷ [] ≡ float_at f at
+unfolding add_if is_float floated
+float-yes f at k v c two i = rw (equal-yes (sym c ∙ two)) (ap (λ (x : ℕ). x ∷ []) i)
 
-pub float-no : (f stmts : List ℕ) (h o k : ℕ) → o ≡ get_or stmts h 0 → k ≡ (statement_at f o).kind → (k ≡ 2 → ⊥) → [] ≡ floats_at f stmts (h ∷ [])
-unfolding floats_at add_if is_float
-float-no f stmts h o k e c n =
-    let is : equal (statement_at f (get_or stmts h 0)).kind 2 ≡ false = equal-no (λ two. n (c ∙ ap (λ (x : ℕ). (statement_at f x).kind) e ∙ two)) in
-    rw is refl
+pub float-no : (f : List ℕ) (at k : ℕ) → k ≡ (statement_at f at).kind → (k ≡ 2 → ⊥) → [] ≡ float_at f at
+unfolding add_if is_float
+float-no f at k c n = rw (equal-no (λ two. n (c ∙ two))) refl
+
+-- that of one statement, by the table of the statements' offsets
+pub float-listed : (f stmts : List ℕ) (h o : ℕ) → o ≡ get_or stmts h 0 → float_at f o ≡ floats_at f stmts (h ∷ [])
+unfolding floats_at
+float-listed f stmts h o e = ap (float_at f) e
 
 -- the same list by another name
 pub all_same : {table xs ys table' : List ℕ} {count count' : ℕ} → xs ≡ ys → MapsAll table count xs table' count' → MapsAll table count ys table' count'

@@ -30,6 +30,10 @@ pub record MapsAll (table : List ℕ) (count : ℕ) (xs table' : List ℕ) (coun
   pub few : count' ≤ count + length xs
   pub maps : (vs : List ℕ) → ((v : ℕ) → v ∈ xs → v < length table) → Numbered table count vs → Numbered table' count' (all_numbered vs xs)
 
+-- the variable of the statement at `at`, if it is a $f
+abbrev pub float_at : List ℕ → ℕ → List ℕ
+float_at f at = add_if (is_float (statement_at f at)) (floated (statement_at f at)) []
+
 -- the variables of the $f among these statements, in their order, where the table has the statements' offsets
 unfoldable pub floats_at : List ℕ → List ℕ → List ℕ → List ℕ
 floats_at f stmts [] = []

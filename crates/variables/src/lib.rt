@@ -2,13 +2,13 @@
 // The numbering of variables: a table, indexed by symbol number, of each variable's number plus 1, or 0 where it has none yet.
 #![tactic(auto)]
 
-ghost use Rattle.std.specs.Prelude.{◌≡◌, [], ◌∷◌, ◌<◌};
+ghost use Rattle.std.specs.Prelude.{◌≡◌, ◌<◌};
 ghost use Rattle.frames.specs.Database.{statement_at};
 ghost use Rattle.machine.specs.Run.{members};
-ghost use Rattle.variables.specs.Numbering.{Maps, MapsAll, floats_at};
+ghost use Rattle.variables.specs.Numbering.{Maps, MapsAll, float_at, floats_at};
 
 use frames::fields;
-use frames::numbers::{StatementNo, SymbolNo};
+use frames::numbers::SymbolNo;
 
 // Numbers variable v, where it is not yet; answers how many have a number.
 pub fn map_var(numbers: &mut [u32], count: u32, v: SymbolNo) -> u32
@@ -38,18 +38,11 @@ pub fn map_pairs(file: &[u8], at: u32, numbers: &mut [u32], count: u32) -> u32
     c
 }
 
-// Numbers the variable of statement h, if it is a $f.
-fn map_float(
-    file: &[u8],
-    statements: &[u32],
-    numbers: &mut [u32],
-    count: u32,
-    h: StatementNo,
-) -> u32
+// Numbers the variable of the statement at `at`, if it is a $f.
+pub fn map_float(file: &[u8], at: u32, numbers: &mut [u32], count: u32) -> u32
     requires { count < 1000000 }
-    ensures { MapsAll numbers.old count (floats_at file.now statements.now (h.0 ∷ [])) numbers.new result }
+    ensures { MapsAll numbers.old count (float_at file.now at) numbers.new result }
 {
-    let at = fields::statement_offset(statements, h);
     if fields::kind(file, at) == 2 {
         map_var(numbers, count, fields::variable(file, at))
     } else {
@@ -65,7 +58,7 @@ pub fn map_floats(file: &[u8], statements: &[u32], at: u32, numbers: &mut [u32],
     let mut c = count;
     for j in 0..fields::hypotheses(file, at) {
         let h = fields::hypothesis(file, at, j);
-        c = map_float(file, statements, numbers, c, h);
+        c = map_float(file, fields::statement_offset(statements, h), numbers, c);
     }
     c
 }

@@ -1,7 +1,6 @@
 -- Lines computed from the definition: `good 14 15`, `refused 2 0`, `refused 7 1048576`, each with LF.
-use Prim.Native.Nat.{ℕ}
 use mathlib.Core.Path.{◌≡◌, refl}
-use mathlib.Core.List.{List, [], ◌∷◌}
+use mathlib.Core.List.{[], ◌∷◌}
 use Rattle.verdict_text.specs.Text.{digits_of, good_line, refused_line}
 
 good-14-15 : good_line 14 15 ≡ 103 ∷ 111 ∷ 111 ∷ 100 ∷ 32 ∷ 49 ∷ 52 ∷ 32 ∷ 49 ∷ 53 ∷ 10 ∷ []

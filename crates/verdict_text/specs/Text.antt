@@ -1,5 +1,5 @@
 -- The line that tells a verdict, as a list of bytes, and what it is to put a text into a buffer.
-use Rattle.std.specs.Prelude.{ℕ, zero, suc, ◌+◌, ◌/◌, ◌%◌, ◌≡◌, List, [], ◌∷◌, ◌++◌, Bool, true, false, cond, ltb, length, take, Ok, Err}
+use Rattle.std.specs.Prelude.{ℕ, zero, suc, ◌+◌, ◌/◌, ◌%◌, ◌≡◌, List, [], ◌∷◌, ◌++◌, cond, ltb, length, take, Ok, Err}
 use Rattle.frames.specs.Verdict.{Verdict, number_of}
 
 -- the decimal digits of a number below 10 ^ fuel, with no zeros in front

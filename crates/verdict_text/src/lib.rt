@@ -13,12 +13,9 @@ fn append(out: &mut [u8], at: usize, part: &[u8]) -> usize
     requires { at + length part.now ≤ length out.old }
     ensures { Appended out.old at part.now out.new result }
 {
-    let mut i = 0;
-    while i < part.len() {
-        out[at + i] = part[i];
-        i += 1;
-    }
-    at + i
+    let end = at + part.len();
+    out[at..end].copy_from_slice(part);
+    end
 }
 
 // Puts a number's digits into out from the place at on, and answers the place after them.

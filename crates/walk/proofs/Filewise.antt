@@ -3,8 +3,7 @@ use Rattle.std.proofs.Common.{Ok}
 use Prim.Native.Nat.{ℕ}
 use mathlib.Core.Path.{◌≡◌, refl, sym, ◌∙◌, ap}
 use mathlib.Core.List.{List}
-use Rattle.frames.specs.Verdict.{verdict, Checked, Verdict, Refused, Good}
-use Rattle.frames.specs.Database.{database}
+use Rattle.frames.specs.Verdict.{Checked, Verdict, Refused, Good}
 use Rattle.frames.specs.declared.Refusal.{Refusal}
 use Rattle.machine.specs.Memory.{Room}
 use Rattle.walk.specs.Walk.{walked_of, laid_answers, AllAnswered, WalksFile}

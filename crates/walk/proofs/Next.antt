@@ -4,11 +4,9 @@ use mathlib.Core.Path.{◌≡◌, refl, sym, ◌∙◌, ap}
 use mathlib.Core.List.{List}
 use native.Mathlib.Omega.{arith}
 use lib.ListN.{length, get_or, set}
-use Rattle.frames.specs.Logic.{equal, below, both, pick}
 use Rattle.frames.specs.Database.{Statement, database, statement_at}
 use Rattle.frames.specs.Facts.{statement_of}
 use Rattle.frames.proofs.Chains.{pick_first, pick_second, equal-yes, equal-no, below-yes, below-no, both_first, both-second}
-use Rattle.machine.specs.Answer.{Answer, number, place, steps}
 use Rattle.machine.specs.Bench.{answer, answer_good, judged}
 use Rattle.machine.specs.Memory.{Room}
 use Rattle.answers.specs.Packed.{packed_answer}
@@ -16,7 +14,7 @@ use Rattle.resolve.specs.Filed.{Filed}
 use Rattle.resolve.proofs.Filing.{filed-length, filed-statement}
 use Rattle.told.specs.declared.Told.{Told}
 use Rattle.told.specs.Says.{Says}
-use Rattle.bench.proofs.Small.{Small, answer-small}
+use Rattle.bench.proofs.Small.{answer-small}
 use Rattle.walk.specs.Walk.{word_of, answer_word, NextAnswered}
 
 module _ {f syms stmts : List ℕ} (w : Filed f syms stmts) where

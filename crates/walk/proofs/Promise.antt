@@ -1,22 +1,19 @@
 -- The promise of the walk: no two outcomes keep it; each $p has its answer, which is that of the call for one statement; and an answer of
 -- 0 means a derivation.
-use Prim.Native.Nat.{ℕ, zero, suc, ◌+◌, ◌*◌, ◌/◌, ◌%◌, ◌≤◌, ◌<◌}
+use Prim.Native.Nat.{ℕ, zero, suc, ◌<◌}
 use mathlib.Core.Path.{◌≡◌, refl, sym, ◌∙◌, ap}
 use mathlib.Core.List.{List, [], ◌∷◌, ◌++◌, map}
 use native.Mathlib.Omega.{arith}
 use lib.ListN.{length, get_or, take, drop, length-map, length-take, get_or-append}
 use lib.Seq.{get_or-take}
 use Rattle.book.specs.Book.{Tree}
-use Rattle.frames.specs.Verdict.{verdict, laid}
+use Rattle.frames.specs.Verdict.{laid}
 use Rattle.frames.specs.Database.{database, GoodFile}
-use Rattle.machine.specs.Answer.{Answer, number}
-use Rattle.machine.specs.Bench.{answer}
-use Rattle.machine.specs.Memory.{Room}
 use Rattle.machine.specs.Promise.{Proves}
 use Rattle.machine.proofs.Acceptance.{zero-means-derivation}
 use Rattle.answers.specs.Packed.{packed_answer, number_in}
 use Rattle.bench.specs.Calls.{room_in}
-use Rattle.bench.proofs.Small.{Small, answer-small}
+use Rattle.bench.proofs.Small.{answer-small}
 use Rattle.walk.specs.Walk.{Walked, provable, word_of, answer_word, answer_words, laid_answers, WalksAll}
 
 -- all that a caller has after the call

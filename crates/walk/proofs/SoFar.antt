@@ -9,7 +9,7 @@ use lib.Seq.{take_all, take-nil, take-append-le}
 use Rattle.bitset.specs.Sets.{keep}
 use Rattle.frames.specs.Logic.{equal, below, both, pick}
 use Rattle.frames.specs.Verdict.{laid}
-use Rattle.frames.specs.Database.{Database, database}
+use Rattle.frames.specs.Database.{database}
 use Rattle.frames.specs.Facts.{statement_of}
 use Rattle.frames.proofs.Chains.{below_true, below_false}
 use Rattle.frames.proofs.Tables.{laid_more, laid-length}

@@ -10,18 +10,19 @@ ghost use Rattle.walk.specs.Walk.{WalksAll, WalksFile, NextAnswered, AllAnswered
 ghost use Rattle.label_index.specs.Labelled.{Labelled};
 
 use answers::pack;
-use clearing::{clear_bytes, clear_words64};
+use clearing::clear;
 use filecheck::check;
 use frames::numbers::StatementNo;
 use frames::{TurnedAway, fields};
 use label_index::fill;
 use proving::statement::answer_statement;
-use proving::{hypothesis_seats, image_sets, label_words, local_labels, offsets, pair_sets};
+use proving::{IMAGE_SETS, LABEL_WORDS, LOCAL_LABELS, OFFSETS, PAIR_SETS, SEATS};
 
 // All $p of a file are answered, so many; or the file is turned away.
 pub type Walked = Result<usize, TurnedAway>;
 
 // Statement p: where it is a $p, its answer is laid at `count`, if there is room, and it is counted.
+// The tables stay slices: `proving::statement::answer_statement`, which docs/DECISIONS.md names, asks only for their sizes, and a struct of arrays would ask more.
 fn answer_next(
     file: &[u8],
     symbols: &[u32],
@@ -86,8 +87,7 @@ fn answer_all(
     ensures { AllAnswered file.now (room_in pool.old stack.old places.old) answers.old answers.new result }
 {
     let mut count = 0;
-    let mut i = 0;
-    while i < statements.len() {
+    for i in 0..statements.len() {
         count = answer_next(
             file,
             symbols,
@@ -107,7 +107,6 @@ fn answer_all(
             answers,
             count,
         );
-        i += 1;
     }
     count
 }
@@ -125,14 +124,14 @@ fn walk_checked(
     requires { Filed file.now symbols.now statements.now }
     ensures { AllAnswered file.now (room_in pool.old stack.old places.old) answers.old answers.new result }
 {
-    let mut table = pair_sets();
-    let mut seats = hypothesis_seats();
-    let mut froms = offsets();
-    let mut tos = offsets();
-    let mut sets = image_sets();
-    let mut numbers = offsets();
-    let mut locals = local_labels();
-    let mut labels = label_words();
+    let mut table = [0; PAIR_SETS];
+    let mut seats = [0; SEATS];
+    let mut froms = [0; OFFSETS];
+    let mut tos = [0; OFFSETS];
+    let mut sets = [0; IMAGE_SETS];
+    let mut numbers = [0; OFFSETS];
+    let mut locals = [0; LOCAL_LABELS];
+    let mut labels = [0; LABEL_WORDS];
     fill(file, statements, &mut labels);
     answer_all(
         file,
@@ -163,8 +162,8 @@ fn walk_file(
 ) -> Walked
     ensures { WalksFile file.now (room_in pool.old stack.old places.old) answers.old answers.new result }
 {
-    let mut symbols = offsets();
-    let mut statements = offsets();
+    let mut symbols = [0; OFFSETS];
+    let mut statements = [0; OFFSETS];
     let sizes = check(file, &mut symbols, &mut statements)?;
     Ok(walk_checked(
         file,
@@ -189,8 +188,8 @@ pub fn verify_all(
     ensures { WalksAll file.now pool.old stack.old places.old answers.old pool.new stack.new places.new answers.new result }
 {
     let walked = walk_file(file, pool, stack, places, answers);
-    clear_bytes(pool);
-    clear_words64(stack);
-    clear_words64(places);
+    clear(pool, 0);
+    clear(stack, 0);
+    clear(places, 0);
     walked
 }

@@ -4,4 +4,4 @@ use Rattle.bench.proofs.Checking.{zeros-same}
 use Rattle.bench.proofs.verify.Goals as goal
 
 pub returns : goal.returns
-returns c = record { says = c.verify_file-told.ensures; zeroed = record { pool_zero = c.clear_bytes.ensures ∙ zeros-same c.pool-1.given; stack_zero = c.clear_words64.ensures ∙ zeros-same c.stack-1.given; places_zero = c.clear_words64-2.ensures ∙ zeros-same c.places-1.given } }
+returns c = record { says = c.verify_file-told.ensures; zeroed = record { pool_zero = c.clear.ensures ∙ zeros-same c.pool-1.given; stack_zero = c.clear-2.ensures ∙ zeros-same c.stack-1.given; places_zero = c.clear-3.ensures ∙ zeros-same c.places-1.given } }

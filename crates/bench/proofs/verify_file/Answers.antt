@@ -1,15 +1,16 @@
 -- `verify_file` meets its contract: the file is checked, then the statement is answered.
+use native.Mathlib.Omega.{arith}
 use Rattle.bench.proofs.Checking.{symbols-fit, symbols-length, statements-fit, statements-length, filed, good-says, refused_says}
 use Rattle.bench.proofs.verify_file.Goals as goal
 
 pub slice_bounds-symbols-end : goal.slice_bounds-symbols-end
-slice_bounds-symbols-end c = symbols-fit c.check.ensures c.in-Ok.is c.offsets-symbols.ensures
+slice_bounds-symbols-end c = symbols-fit c.check.ensures c.in-Ok.is (omega arith)
 
 pub slice_bounds-verify_checked-end : goal.slice_bounds-verify_checked-end
 slice_bounds-verify_checked-end c = symbols-length c.check.ensures c.in-Ok.is
 
 pub slice_bounds-statements-end : goal.slice_bounds-statements-end
-slice_bounds-statements-end c = statements-fit c.check.ensures c.in-Ok.is c.offsets-statements.ensures
+slice_bounds-statements-end c = statements-fit c.check.ensures c.in-Ok.is (omega arith)
 
 pub slice_bounds-verify_checked-end-in-Ok : goal.slice_bounds-verify_checked-end-in-Ok
 slice_bounds-verify_checked-end-in-Ok c = statements-length c.check.ensures c.in-Ok.is

@@ -1,11 +1,11 @@
--- `findings::finish` meets its contract.
-use Rattle.findings.specs.Tells.{answer_of}
-use Rattle.findings.proofs.Finishing.{closes-end, closes-refused}
+-- `findings::finish` meets its contract: the mode is judged, and then the end (`closes-both`).
+use Rattle.std.proofs.Common.{rules}
+use Rattle.std.proofs.lemmas.Result.{MatchResult-weaker}
+use Rattle.findings.proofs.Finishing.{closes-both}
 use Rattle.findings.proofs.finish.Goals as goal
 
-pub returns-in-Err : goal.returns-in-Err
-unfolding answer_of
-returns-in-Err c = rw c.settled.ensures (closes-refused (rw c.in-Err.is at c.check_mode.ensures))
-
-pub returns-in-Ok : goal.returns-in-Ok
-returns-in-Ok c = rw c.settled-in-Ok.ensures (closes-end c.word_at-word.ensures (rw c.in-Ok.is at c.check_mode.ensures) c.check_end.ensures)
+pub returns : goal.returns
+returns c =
+    rw c.settled.ensures
+    (closes-both c.check_mode.result _ c.entry_or-word.ensures c.check_mode.ensures
+    (MatchResult-weaker c.check_mode.result c.and_then-ended.ensures (λ x q. search (rules, q)) (λ why q. q)))

@@ -5,13 +5,13 @@ use Rattle.long.proofs.Answering.{good-long, turned-long}
 use Rattle.long.proofs.long_file.Goals as goal
 
 pub slice_bounds-symbols-end : goal.slice_bounds-symbols-end
-slice_bounds-symbols-end c = symbols-fit c.check.ensures c.in-Ok.is c.offsets-symbols.ensures
+slice_bounds-symbols-end c = symbols-fit c.check.ensures c.in-Ok.is (omega arith)
 
 pub slice_bounds-long_statement-end : goal.slice_bounds-long_statement-end
 slice_bounds-long_statement-end c = symbols-length c.check.ensures c.in-Ok.is
 
 pub slice_bounds-statements-end : goal.slice_bounds-statements-end
-slice_bounds-statements-end c = statements-fit c.check.ensures c.in-Ok.is c.offsets-statements.ensures
+slice_bounds-statements-end c = statements-fit c.check.ensures c.in-Ok.is (omega arith)
 
 pub slice_bounds-long_statement-end-in-Ok : goal.slice_bounds-long_statement-end-in-Ok
 slice_bounds-long_statement-end-in-Ok c = statements-length c.check.ensures c.in-Ok.is

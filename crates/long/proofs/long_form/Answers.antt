@@ -7,10 +7,10 @@ pub returns : goal.returns
 returns c =
     record {
       says = c.long_within-told.ensures;
-      tree_zero = c.clear_words64-3.ensures ∙ zeros-same c.tree-1.given;
+      tree_zero = c.clear-4.ensures ∙ zeros-same c.tree-1.given;
       zeroed = record {
-        pool_zero = c.clear_bytes.ensures ∙ zeros-same c.pool-1.given;
-        stack_zero = c.clear_words64.ensures ∙ zeros-same c.stack-1.given;
-        places_zero = c.clear_words64-2.ensures ∙ zeros-same c.places-1.given;
+        pool_zero = c.clear.ensures ∙ zeros-same c.pool-1.given;
+        stack_zero = c.clear-2.ensures ∙ zeros-same c.stack-1.given;
+        places_zero = c.clear-3.ensures ∙ zeros-same c.places-1.given;
       };
     }

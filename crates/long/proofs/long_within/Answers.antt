@@ -5,7 +5,7 @@ use lib.Seq.{length-take-le}
 use Rattle.long.proofs.long_within.Goals as goal
 
 pub slice_bounds-long_file-end-2 : goal.slice_bounds-long_file-end-2
-slice_bounds-long_file-end-2 c = sym (length-take-le _ c.args.tree.now (omega (arith, c.entries_used-used.ensures)))
+slice_bounds-long_file-end-2 c = sym (length-take-le _ c.args.tree.now (omega (arith, c.min-used.ensures)))
 
 pub long_file-requires : goal.long_file-requires
-long_file-requires c = length-take-le _ c.args.tree.now (omega (arith, c.entries_used-used.ensures)) ∙ c.entries_used-used.ensures
+long_file-requires c = length-take-le _ c.args.tree.now (omega (arith, c.min-used.ensures)) ∙ c.min-used.ensures

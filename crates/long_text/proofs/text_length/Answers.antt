@@ -6,4 +6,4 @@ pub returns : goal.returns
 returns c =
     let a = c.args in
     text-told a.file.now a.tree.now a.nodes a.word a.sizes.now _ _ _ c.measure.ensures
-    c.size_of.ensures c.without_space.ensures
+    c.size_of.ensures c.saturating_sub.ensures

@@ -1,7 +1,6 @@
 -- `packed_calls::imaged` meets its contract: the loop stops at the first symbol that fails. The invariant: the test of what is left is the test of all
 -- (`PassedTo`).
-use Prim.Native.Nat.{◌-◌}
-use mathlib.Core.Path.{sym, ◌∙◌}
+use mathlib.Core.Path.{sym}
 use native.Mathlib.Omega.{arith}
 use Rattle.frames.specs.Layout.{symbols_at}
 use Rattle.packed.proofs.Symbols.{here-symbol, symbols-length}
@@ -16,14 +15,14 @@ pub loop-i-preserved : goal.loop-i-preserved
 loop-i-preserved c =
     let a = c.args in
     let h = here-symbol a.file.now a.at c.loop-i.i c.symbol_count-n.ensures.0 c.symbols_from-base.ensures.0 c.u16_at.ensures.0 c.loop-i-test.true in
-    passed-more c.loop-i.invariant h (sym c.image_within.ensures ∙ c.if-image_within.true)
+    passed-more c.loop-i.invariant h (sym c.if-not-image_within.ensures)
 
-pub returns-else-image_within : goal.returns-else-image_within
+pub returns-then-not-image_within : goal.returns-then-not-image_within
 unfolding within
-returns-else-image_within c =
+returns-then-not-image_within c =
     let a = c.args in
     let h = here-symbol a.file.now a.at c.loop-i.i c.symbol_count-n.ensures.0 c.symbols_from-base.ensures.0 c.u16_at.ensures.0 c.loop-i-test.true in
-    passed-stop c.loop-i.invariant h (sym c.image_within.ensures ∙ c.if-image_within.false)
+    passed-stop c.loop-i.invariant h (sym c.if-not-image_within.ensures)
 
 pub returns : goal.returns
 unfolding within

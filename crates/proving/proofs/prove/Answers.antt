@@ -5,7 +5,7 @@ use Rattle.proving.proofs.Preparing.{blank}
 use Rattle.proving.proofs.prove.Goals as goal
 
 pub verify_proof-requires : goal.verify_proof-requires
-verify_proof-requires c = record { labelled = c.requires.labelled; blank = blank _ _ _ _ _ _ _ _ _ _ _ _ _ _ _ _ c.requires.filed c.requires.asked c.requires.cut (omega (arith, c.requires.entries)) c.clear_words64.ensures c.clear_words32.ensures c.clear_words32-2.ensures c.clear_words32-3.ensures c.limits_of-limits.ensures }
+verify_proof-requires c = record { labelled = c.requires.labelled; blank = blank _ _ _ _ _ _ _ _ _ _ _ _ _ _ _ _ c.requires.filed c.requires.asked c.requires.cut (omega (arith, c.requires.entries)) c.clear.ensures c.clear-2.ensures c.clear-3.ensures c.clear-4.ensures c.limits_of-limits.ensures }
 
 pub shape_of-table : goal.shape_of-table
 shape_of-table c = c.table-2-1.given ∙ c.table-1.given

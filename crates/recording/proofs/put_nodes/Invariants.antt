@@ -1,9 +1,5 @@
-use Prim.Native.Nat.{◌-◌}
 use Rattle.recording.specs.Notes.{PutsNodes}
 use Rattle.recording.proofs.put_nodes.Given as goal
 
 abbrev pub invariant-loop-j : goal.invariant-loop-j
 invariant-loop-j l = PutsNodes l.stack l.base l.seats l.j l.initial.tree l.from l.tree
-
-abbrev pub decreases-loop-j : goal.decreases-loop-j
-decreases-loop-j l = l.n - l.j

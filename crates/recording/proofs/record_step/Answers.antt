@@ -1,7 +1,6 @@
 use native.Mathlib.Omega.{arith}
 use lib.ListN.{length-set}
 use mathlib.Core.Path.{◌∙◌}
-use Prim.Native.Nat.{◌-◌}
 use Rattle.recording.proofs.Noting.{notes-lost, notes-short, notes-put}
 use Rattle.recording.proofs.record_step.Goals as goal
 

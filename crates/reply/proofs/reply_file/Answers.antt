@@ -1,10 +1,11 @@
 -- `reply::reply_file` meets its contract: by the verdict, the line of the refusal or the lines of a good file.
+use native.Mathlib.Omega.{arith}
 use Rattle.bench.proofs.Checking.{statements-fit, statements-length}
 use Rattle.reply.proofs.Whole.{text-refused, text-good, listed}
 use Rattle.reply.proofs.reply_file.Goals as goal
 
 pub slice_bounds-statements-end : goal.slice_bounds-statements-end
-slice_bounds-statements-end c = statements-fit c.check.ensures c.in-Ok.is c.offsets-statements.ensures
+slice_bounds-statements-end c = statements-fit c.check.ensures c.in-Ok.is (omega arith)
 
 pub slice_bounds-reply_good-end : goal.slice_bounds-reply_good-end
 slice_bounds-reply_good-end c = statements-length c.check.ensures c.in-Ok.is

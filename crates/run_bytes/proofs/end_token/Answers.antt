@@ -11,4 +11,4 @@ pub after-requires : goal.after-requires
 after-requires c = let f = c.requires.running.checked.text_few in omega (arith, c.requires.low.1.0.1)
 
 pub returns : goal.returns
-returns c = let q = c.requires.low in let m = q.0.1.0 in let rd = rw (sym m) at c.on_token-read.ensures in plain-token (rw (sym m) at q.0.1.1) q.1.1 q.1.0.0 (omega (arith, q.1.0.1)) rd.follows rd.keeps c.after.ensures
+returns c = let q = c.requires.low in let rd = c.on_token-read.ensures in plain-token q.0.1 q.1.1 q.1.0.0 (omega (arith, q.1.0.1)) rd.follows rd.keeps c.after.ensures

@@ -12,7 +12,7 @@ pub overflow_add-result : goal.overflow_add-result
 overflow_add-result c = search (rules, c.requires.running.checked.text_few, c.requires.low.1.1)
 
 pub returns-then-divider : goal.returns-then-divider
-returns-then-divider c = let q = c.requires.low in let m = q.0.1.0 in rw (sym m) (plain-none (rw (sym m) at q.0.1.1) (rw (sym m) at q.0.0.0) c.requires.running.sized q.1.0 (sym c.divider.ensures ∙ c.if-divider.true) (omega (arith, c.if-s-at.false, q.1.0)))
+returns-then-divider c = let q = c.requires.low in plain-none q.0.1 q.0.0.0 c.requires.running.sized q.1.0 (sym c.divider.ensures ∙ c.if-divider.true) (omega (arith, c.if-s-at.false, q.1.0))
 
 pub returns : goal.returns
-returns c = let q = c.requires.low in let m = q.0.1.0 in plain_more (rw (sym m) at q.0.1.1) (rw (sym m) at q.0.0.0) c.requires.running.sized q.1.0 (sym c.divider.ensures ∙ c.if-divider.false) q.1.1 refl
+returns c = let q = c.requires.low in plain_more q.0.1 q.0.0.0 c.requires.running.sized q.1.0 (sym c.divider.ensures ∙ c.if-divider.false) q.1.1 refl

@@ -3,4 +3,4 @@ use Rattle.sizes.proofs.Measuring.{measures}
 use Rattle.sizes.proofs.measure.Goals as goal
 
 pub returns : goal.returns
-returns c = measures c.args.file.now c.args.tree.now c.args.n c.args.sizes.now _ _ c.least-end.ensures c.sizes-1.given c.measure_to.ensures
+returns c = measures c.args.file.now c.args.tree.now c.args.n c.args.sizes.now _ _ c.min-end.ensures c.sizes-1.given c.measure_to.ensures

@@ -1,5 +1,4 @@
 -- `sizes::measure_one` meets its contract. The invariant: what is summed so far and the words that are left make the size of the application (`Summed`).
-use Prim.Native.Nat.{◌-◌}
 use mathlib.Core.Path.{◌∙◌, ap}
 use native.Mathlib.Omega.{arith}
 use Rattle.sizes.specs.Measured.{label_size_at}
@@ -7,16 +6,10 @@ use Rattle.sizes.proofs.Passing.{summed-none, summed-more, summed-all}
 use Rattle.sizes.proofs.measure_one.Goals as goal
 
 pub loop-i-init : goal.loop-i-init
-loop-i-init c = summed-none c.args.file.now c.args.tree.now c.args.sizes.now c.args.from c.words_at-n.ensures.0 (c.label_size-sum.ensures ∙ ap (label_size_at c.args.file.now) c.word_at.ensures)
-
-pub overflow_add-i : goal.overflow_add-i
-overflow_add-i c = omega arith
-
-pub loop-i-smaller : goal.loop-i-smaller
-loop-i-smaller c = omega arith
+loop-i-init c = summed-none c.args.file.now c.args.tree.now c.args.sizes.now c.args.from c.words_at-n.ensures.0 (c.label_size-sum.ensures ∙ ap (label_size_at c.args.file.now) c.entry_or.ensures)
 
 pub loop-i-preserved : goal.loop-i-preserved
-loop-i-preserved c = summed-more c.args.file.now c.args.tree.now c.args.sizes.now c.args.from c.loop-i.invariant (omega arith) c.word_at-word.ensures c.size_of.ensures c.add_capped-sum.ensures
+loop-i-preserved c = summed-more c.args.file.now c.args.tree.now c.args.sizes.now c.args.from c.loop-i.invariant (omega arith) c.entry_or-word.ensures c.size_of.ensures c.add_capped-sum.ensures
 
 pub returns : goal.returns
 returns c = summed-all c.args.file.now c.args.tree.now c.args.sizes.now c.args.from c.loop-i.invariant (omega arith)

@@ -1,5 +1,4 @@
 -- `sizes::measure_to` meets its contract. The invariant: what is left of the pass takes the table so far on to the whole table (`Passed`). Each turn moves on.
-use Prim.Native.Nat.{◌-◌}
 use native.Mathlib.Omega.{arith}
 use Rattle.sizes.proofs.Passing.{application-few, passed_none, passed-more, passed-all}
 use Rattle.sizes.proofs.measure_to.Goals as goal

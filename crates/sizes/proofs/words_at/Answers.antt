@@ -9,5 +9,5 @@ use Rattle.sizes.proofs.words_at.Goals as goal
 pub returns : goal.returns
 unfolding words_at
 returns c =
-    let read = ap (λ (o : ℕ). length (statement_at c.args.file.now o).hyps) (c.offset-at.ensures ∙ ap offset_of c.word_at.ensures) in
+    let read = ap (λ (o : ℕ). length (statement_at c.args.file.now o).hyps) (c.offset-at.ensures ∙ ap offset_of c.entry_or.ensures) in
     (c.hypotheses.ensures.0 ∙ read, c.hypotheses.ensures.1)

@@ -1,4 +1,5 @@
 -- `spans::local_span` meets its contract: the span before its sign stands for the part (`local-stands`).
+use mathlib.Core.Path.{refl}
 use Rattle.packed.specs.Pool.{range}
 use Rattle.tokens.proofs.Halves.{first-at}
 use Rattle.spans.proofs.Spanning.{local-stands}
@@ -7,4 +8,4 @@ use Rattle.spans.proofs.local_span.Goals as goal
 
 pub returns : goal.returns
 unfolding range
-returns c = local-stands c.args.text.now c.args.from c.args.to (omega arith) (omega arith) (omega arith) (first-at _ c.find-colon.ensures) (first-at _ c.find-equals.ensures) c.span_before.ensures
+returns c = local-stands c.args.text.now c.args.from c.args.to (omega arith) (omega arith) refl (first-at _ refl) (first-at _ refl) c.part_span.ensures

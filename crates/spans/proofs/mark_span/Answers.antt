@@ -1,4 +1,5 @@
 -- `spans::mark_span` meets its contract: the span before its sign stands for the part (`mark-stands`).
+use mathlib.Core.Path.{refl}
 use Rattle.packed.specs.Pool.{range}
 use Rattle.tokens.proofs.Halves.{first-at}
 use Rattle.spans.proofs.Spanning.{mark-stands}
@@ -7,4 +8,4 @@ use Rattle.spans.proofs.mark_span.Goals as goal
 
 pub returns : goal.returns
 unfolding range
-returns c = mark-stands c.args.text.now c.args.from c.args.to (omega arith) (omega arith) (omega arith) (first-at _ c.find-colon.ensures) (first-at _ c.find-equals.ensures) c.span_before.ensures
+returns c = mark-stands c.args.text.now c.args.from c.args.to (omega arith) (omega arith) refl (first-at _ refl) (first-at _ refl) c.part_span.ensures

@@ -4,7 +4,7 @@ use Rattle.variables.proofs.Pairs.{all_none}
 use Rattle.variables.proofs.map_float.Goals as goal
 
 pub returns-then-kind-eq2 : goal.returns-then-kind-eq2
-returns-then-kind-eq2 c = let a = c.args in all_same (float-yes a.file.now a.statements.now a.h.0 _ _ _ c.statement_offset-at.ensures c.kind.ensures c.if-kind-eq2.true c.variable.ensures) (all_one c.map_var.ensures)
+returns-then-kind-eq2 c = let a = c.args in all_same (float-yes a.file.now a.at _ _ c.kind.ensures c.if-kind-eq2.true c.variable.ensures) (all_one c.map_var.ensures)
 
 pub returns-else-kind-eq2 : goal.returns-else-kind-eq2
-returns-else-kind-eq2 c = let a = c.args in all_same (float-no a.file.now a.statements.now a.h.0 _ _ c.statement_offset-at.ensures c.kind.ensures c.if-kind-eq2.false) (all_none a.numbers.now a.count)
+returns-else-kind-eq2 c = let a = c.args in all_same (float-no a.file.now a.at _ c.kind.ensures c.if-kind-eq2.false) (all_none a.numbers.now a.count)

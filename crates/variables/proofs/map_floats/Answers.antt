@@ -1,6 +1,6 @@
 -- `variables::map_floats` meets its contract: after j hypotheses the variables of the $f before the j-th are numbered (`MapsAll`).
 use Rattle.frames.specs.Database.{statement_at}
-use Rattle.variables.proofs.Floats.{all_join, all_same, floats-all, floats-few, floats-more}
+use Rattle.variables.proofs.Floats.{all_join, all_same, float-listed, floats-all, floats-few, floats-more}
 use Rattle.variables.proofs.Pairs.{all_none}
 use Rattle.variables.specs.Numbering.{floats_at}
 use lib.ListN.{length-take, take}
@@ -34,7 +34,7 @@ loop-j-preserved c =
     let taken = length-take j hs in
     let most = c.hypotheses-j-end.ensures.1 in
     let count = c.hypotheses-j-end.ensures.0 in
-    all_same (sym (floats-more a.file.now a.statements.now hs j _ (omega arith) c.hypothesis-h.ensures)) (all_join c.loop-j.invariant c.map_float-c.ensures)
+    all_same (sym (floats-more a.file.now a.statements.now hs j _ (omega arith) c.hypothesis-h.ensures)) (all_join c.loop-j.invariant (all_same (float-listed a.file.now a.statements.now c.hypothesis-h.result.0 _ c.statement_offset.ensures) c.map_float-c.ensures))
 
 pub returns : goal.returns
 returns c =

@@ -6,7 +6,8 @@ use Rattle.std.proofs.lemmas.Iterator.Search.{all_from_yields_List}
 use Rattle.bitset.specs.Sets.{members}
 use Rattle.bitset.specs.Iter.{left}
 use Rattle.disjoint.specs.Disjoint.{row_has, apart}
-use Rattle.disjoint.proofs.Including.{apart-empty, row_told, list_all-all}
+use Rattle.disjoint.proofs.Including.{apart-empty, row_told}
+use Rattle.frames.proofs.Words.{list_all-all}
 use Rattle.disjoint.proofs.apart.all_disjoint.Goals as goal
 
 pub returns-then-is_empty : goal.returns-then-is_empty

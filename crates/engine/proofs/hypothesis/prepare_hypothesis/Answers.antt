@@ -2,7 +2,7 @@
 use Rattle.std.proofs.Common.{◌≡◌, Some, None}
 use Rattle.std.proofs.lemmas.Result.{err_from_is_err_and}
 use Rattle.machine.specs.declared.Refusal.TheVariants.{PoolFull}
-use Rattle.engine.proofs.Hypotheses.{prepares-full, prepares-many, prepares-ready}
+use Rattle.engine.proofs.Hypotheses.{maps-float, prepares-full, prepares-many, prepares-ready}
 use Rattle.packed.proofs.Joining.{grown-of-to}
 use native.Mathlib.Omega.{arith}
 use Rattle.engine.proofs.hypothesis.prepare_hypothesis.Goals as goal
@@ -10,7 +10,7 @@ use Rattle.engine.proofs.hypothesis.prepare_hypothesis.Goals as goal
 pub returns-then-c-gt256 : goal.returns-then-c-gt256
 returns-then-c-gt256 c =
     let a = c.args in
-    prepares-many a.file.now a.symbols.now a.at a.numbers.now a.count a.pool.now a.used a.limit c.map_float-c.ensures c.if-c-gt256.true
+    prepares-many a.file.now a.symbols.now a.at a.numbers.now a.count a.pool.now a.used a.limit (maps-float a.file.now a.at c.map_float-c.ensures) c.if-c-gt256.true
 
 pub returns : goal.returns
 returns c =
@@ -18,7 +18,7 @@ returns c =
     let w : c.do_substitute_raw.result ≡ Some c.in_ok-end.end = grind arith in
     let add = c.do_substitute_raw.ensures.bytes in
     let said = grown-of-to _ a.used a.limit _ (rw w at add.answers) in
-    prepares-ready a.file.now a.symbols.now a.at a.numbers.now a.count a.pool.now a.used a.limit c.map_float-c.ensures (omega arith) (omega arith) add.sized (let e = said.0 in omega arith) said.1 (rw w at c.do_substitute_raw.ensures.lists) add.kept add.past
+    prepares-ready a.file.now a.symbols.now a.at a.numbers.now a.count a.pool.now a.used a.limit (maps-float a.file.now a.at c.map_float-c.ensures) (omega arith) (omega arith) add.sized (let e = said.0 in omega arith) said.1 (rw w at c.do_substitute_raw.ensures.lists) add.kept add.past
 
 pub returns-in_err-end : goal.returns-in_err-end
 returns-in_err-end c =
@@ -28,4 +28,4 @@ returns-in_err-end c =
     let p = err_from_is_err_and c.from_residual.result c.from_residual.ensures.1 in
     let add = c.do_substitute_raw.ensures.bytes in
     rw (p.1, p.2, e)
-    (prepares-full a.file.now a.symbols.now a.at a.numbers.now a.count a.pool.now a.used a.limit c.map_float-c.ensures (omega arith) (omega arith) add.sized (rw w at c.do_substitute_raw.ensures.lists) add.kept add.past)
+    (prepares-full a.file.now a.symbols.now a.at a.numbers.now a.count a.pool.now a.used a.limit (maps-float a.file.now a.at c.map_float-c.ensures) (omega arith) (omega arith) add.sized (rw w at c.do_substitute_raw.ensures.lists) add.kept add.past)

@@ -13,12 +13,12 @@ loop-i-init c = let a = c.args in raw-none a.file.now a.symbols.now a.numbers.no
 pub loop-i-preserved : goal.loop-i-preserved
 loop-i-preserved c =
     let a = c.args in
-    let h = here-symbol a.file.now a.at c.loop-i.i c.symbol_count-n.ensures.0 c.symbols_from-base.ensures.0 c.u16_at.ensures.0 c.loop-i-test.true in
+    let h = here-symbol a.file.now a.at c.loop-i.i c.symbol_count-i-end.ensures.0 c.symbols_from-base.ensures.0 c.u16_at.ensures.0 (omega arith) in
     raw-more c.loop-i.invariant h c.mark_symbol-all.ensures
 
 pub returns : goal.returns
 returns c =
     let a = c.args in
     let l = symbols-length a.file.now a.at in
-    let n = c.symbol_count-n.ensures.0 in
+    let n = c.symbol_count-i-end.ensures.0 in
     raw-done c.loop-i.invariant (omega arith)

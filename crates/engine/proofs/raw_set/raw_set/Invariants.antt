@@ -1,5 +1,4 @@
 -- `engine::raw_set::raw_set` meets its contract: after i symbols the set has what those before the i-th add (`RawTo`).
-use Prim.Native.Nat.{◌-◌}
 use Rattle.engine.proofs.RawSets.{RawTo}
 use Rattle.frames.specs.Layout.{symbols_at}
 use Rattle.frames.specs.Logic.{all}
@@ -8,6 +7,3 @@ use Rattle.engine.proofs.raw_set.raw_set.Given as goal
 
 abbrev pub invariant-loop-i : goal.invariant-loop-i
 invariant-loop-i l = RawTo l.file l.symbols l.numbers (symbols_at l.file l.at) l.i l.all.words
-
-abbrev pub decreases-loop-i : goal.decreases-loop-i
-decreases-loop-i l = l.n - l.i

@@ -1,32 +1,21 @@
 -- `frames::text::find` meets its contract: the loop stops at the first record that bears the text. The invariant: none so far does (`AnySoFar`).
-use Prim.Native.Nat.{◌-◌}
 use Rattle.frames.proofs.Found.{same_true}
 use Rattle.frames.proofs.Loops.{any-done, any-more, any_none, here-list}
 use Rattle.frames.specs.Table.{named, used}
-use borrow.Author.Rules.{rules}
 use mathlib.Core.Path.{sym}
 use native.Mathlib.Omega.{arith}
 use Rattle.frames.proofs.text.find.Goals as goal
 
 pub loop-i-init : goal.loop-i-init
-loop-i-init c = let a = c.args in (search rules, any_none (named a.file.now a.text.now) a.offsets.now)
-
-pub bounds-offsets-i : goal.bounds-offsets-i
-bounds-offsets-i c = omega arith
+loop-i-init c = let a = c.args in any_none (named a.file.now a.text.now) a.offsets.now
 
 pub returns-then-same_bytes : goal.returns-then-same_bytes
 returns-then-same_bytes c = (omega arith, same_true _ _ (cc))
 
-pub overflow_add-i : goal.overflow_add-i
-overflow_add-i c = omega arith
-
-pub loop-i-smaller : goal.loop-i-smaller
-loop-i-smaller c = omega arith
-
 pub loop-i-preserved : goal.loop-i-preserved
 unfolding named
-loop-i-preserved c = (omega arith, any-more c.loop-i.invariant.1 (here-list c.args.offsets.now c.loop-i.i 0 (omega arith)) (cc))
+loop-i-preserved c = any-more c.loop-i.invariant (here-list c.args.offsets.now c.loop-i.i 0 (omega arith)) (cc)
 
 pub returns : goal.returns
 unfolding used
-returns c = sym (any-done c.loop-i.invariant.1 (omega arith))
+returns c = sym (any-done c.loop-i.invariant (omega arith))

@@ -1,12 +1,7 @@
 -- `frames::text::find` meets its contract: the loop stops at the first record that bears the text. The invariant: none so far does (`AnySoFar`).
-use Prim.Native.Nat.{◌-◌, ◌≤◌}
 use Rattle.frames.proofs.Loops.{AnySoFar}
 use Rattle.frames.specs.Table.{named}
-use lib.ListN.{length}
 use Rattle.frames.proofs.text.find.Given as goal
 
 abbrev pub invariant-loop-i : goal.invariant-loop-i
-invariant-loop-i l = (l.i ≤ length l.offsets) × AnySoFar (named l.file l.text) l.offsets l.i
-
-abbrev pub decreases-loop-i : goal.decreases-loop-i
-decreases-loop-i l = length l.offsets - l.i
+invariant-loop-i l = AnySoFar (named l.file l.text) l.offsets l.i

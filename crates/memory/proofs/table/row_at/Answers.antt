@@ -3,4 +3,4 @@ use Rattle.memory.proofs.Tables.{row_read}
 use Rattle.memory.proofs.table.row_at.Goals as goal
 
 pub returns : goal.returns
-returns c = row_read c.args.table.now c.args.k _ c.word_at-head.ensures c.word_at-from.ensures c.word_at-to.ensures c.word_at-tag.ensures c.word_at-end.ensures c.word_at-node.ensures c.set_at-vars.ensures
+returns c = row_read c.args.table.now c.args.k _ c.entry_or-head.ensures c.entry_or-from.ensures c.entry_or-to.ensures c.entry_or-tag.ensures c.entry_or-end.ensures c.entry_or-node.ensures c.from_table.ensures

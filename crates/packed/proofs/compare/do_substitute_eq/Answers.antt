@@ -1,6 +1,5 @@
 -- `packed::compare::do_substitute_eq` meets its contract: the symbols are met one after another (`Meets`), and at the end nothing is left.
 use Rattle.packed.proofs.Lists.{compares-lists}
-use Prim.Native.Nat.{◌-◌}
 use Rattle.frames.specs.Layout.{symbols_at}
 use Rattle.frames.specs.Logic.{equal}
 use Rattle.packed.proofs.Comparing.{meets-done, meets-more, meets-none, meets-stop}
@@ -20,12 +19,12 @@ meet_piece-requires c =
     let h = here-symbol a.file.now a.at c.loop-i.i c.symbol_count-n.ensures.0 c.symbols_from-base.ensures.0 c.u16_at.ensures.0 (omega arith) in
     ((c.loop-i.invariant.rises, c.loop-i.invariant.fits), imaged-one c.requires.1 h c.loop-i.invariant.begun _ (omega arith))
 
-pub returns-in-None : goal.returns-in-None
-returns-in-None c =
+pub returns-in_default : goal.returns-in_default
+returns-in_default c =
     let whole = compares-lists c.args.file.now c.args.symbols.now c.args.at c.args.froms.now c.args.tos.now
     (let a = c.args in
     let h = here-symbol a.file.now a.at c.loop-i.i c.symbol_count-n.ensures.0 c.symbols_from-base.ensures.0 c.u16_at.ensures.0 (omega arith) in
-    meets-stop c.loop-i.invariant h (sym c.in-None.is ∙ c.meet_piece.ensures)) in record { bytes = whole.0; lists = whole.1 }
+    meets-stop c.loop-i.invariant h (sym c.in_default.is ∙ c.meet_piece.ensures)) in record { bytes = whole.0; lists = whole.1 }
 
 pub loop-i-preserved : goal.loop-i-preserved
 loop-i-preserved c =

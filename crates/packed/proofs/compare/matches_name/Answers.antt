@@ -1,41 +1,26 @@
--- `packed::compare::matches_name` meets its contract: one byte is compared, or the loop stops at the first difference (`SameSoFar`).
-use Prim.Native.Nat.{◌+◌, ◌-◌}
-use Rattle.frames.proofs.Chains.{equal-no, equal-yes}
-use Rattle.frames.proofs.Loops.{here-list, same-done, same_more, same_none, same_stop}
-use Rattle.packed.proofs.Comparing.{here-range}
-use Rattle.packed.proofs.Packs.{ended-length}
-use Rattle.packed.proofs.Written.{range_length}
-use Rattle.packed.specs.Packing.{ended}
-use borrow.Author.Rules.{rules}
-use lib.ListN.{length}
-use native.Mathlib.Omega.{arith}
+-- `packed::compare::matches_name` meets its contract: one byte is compared, or the last one, marked, and those before it (`same-ended`).
+use mathlib.Core.Path.{◌∙◌}
+use Rattle.frames.specs.Logic.{equal}
+use Rattle.frames.proofs.Chains.{both_first, both-second, equal-yes, equal-no}
+use Rattle.frames.proofs.Words.{pointwise-same}
+use Rattle.packed.specs.Pool.{range}
+use Rattle.packed.proofs.Comparing.{same-ended, same_nothing}
 use Rattle.packed.proofs.compare.matches_name.Goals as goal
 
-pub loop-i-init : goal.loop-i-init
-loop-i-init c = (search rules, same_none _ _)
+pub returns-in_default : goal.returns-in_default
+returns-in_default c = let a = c.args in same_nothing a.name.now a.at a.pool.now c.in_default.ensures.cases
 
-pub returns-then-ended_byte-pool : goal.returns-then-ended_byte-pool
-returns-then-ended_byte-pool c =
+pub returns-then-last-pool : goal.returns-then-last-pool
+unfolding range
+returns-then-last-pool c =
     let a = c.args in
-    let i = c.loop-i.i in
-    let n = length a.name.now in
-    let e = here-list (ended a.name.now) i 0 (omega (arith, ended-length a.name.now)) in
-    let p = here-range a.at n a.pool.now i (omega arith) (omega arith) in
-    same_stop c.loop-i.invariant.1 e p (equal-no (λ q. c.if-ended_byte-pool.true (cc)))
+    let cut = c.in-Some.ensures.cases in
+    same-ended c.in-Some.front.now c.in-Some.last.now a.at a.pool.now cut.0 cut.1 c.requires
+    (both-second (equal-yes c.if-last-pool.true) (c.eq.ensures ∙ pointwise-same _ _))
 
-pub loop-i-preserved : goal.loop-i-preserved
-loop-i-preserved c =
+pub returns-else-last-pool : goal.returns-else-last-pool
+unfolding equal
+returns-else-last-pool c =
     let a = c.args in
-    let i = c.loop-i.i in
-    let n = length a.name.now in
-    let e = here-list (ended a.name.now) i 0 (omega (arith, ended-length a.name.now)) in
-    let p = here-range a.at n a.pool.now i (omega arith) (omega arith) in
-    (omega arith, same_more c.loop-i.invariant.1 e p (equal-yes (cc)))
-
-pub returns : goal.returns
-returns c =
-    let a = c.args in
-    let n = length a.name.now in
-    let l = ended-length a.name.now in
-    let r = range_length a.at (a.at + n) a.pool.now (omega arith) (omega arith) in
-    same-done c.loop-i.invariant.1 (omega arith) (omega arith)
+    let cut = c.in-Some.ensures.cases in
+    same-ended c.in-Some.front.now c.in-Some.last.now a.at a.pool.now cut.0 cut.1 c.requires (both_first _ (equal-no c.if-last-pool.false) (equal-no c.if-last-pool.false))

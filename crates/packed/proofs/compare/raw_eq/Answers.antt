@@ -1,11 +1,9 @@
 -- `packed::compare::raw_eq` meets its contract: the symbols are met one after another (`Meets`), and at the end nothing is left.
 use Rattle.packed.proofs.Lists.{raw-lists}
-use Prim.Native.Nat.{◌-◌}
 use Rattle.frames.specs.Layout.{symbols_at}
 use Rattle.frames.specs.Logic.{equal}
 use Rattle.packed.proofs.Comparing.{meets-done, meets-more, meets-none, meets-stop, met-spelled}
 use Rattle.packed.proofs.Symbols.{here-symbol, symbols-length}
-use borrow.Author.Rules.{rules}
 use mathlib.Core.Path.{◌∙◌, sym}
 use native.Mathlib.Omega.{arith}
 use Rattle.packed.proofs.compare.raw_eq.Goals as goal
@@ -15,30 +13,12 @@ loop-j-init c =
     let a = c.args in
     meets-none _ (symbols_at a.file.now a.at) a.pool.now a.from a.to (omega arith) (omega arith)
 
-pub entry-requires : goal.entry-requires
-entry-requires c =
-    let a = c.args in
-    let h = here-symbol a.file.now a.at c.loop-j.j c.symbol_count-n.ensures.0 c.symbols_from-base.ensures.0 c.u16_at.ensures.0 (omega arith) in
-    search rules
-
-pub name-name-requires : goal.name-name-requires
-name-name-requires c =
-    let a = c.args in
-    let h = here-symbol a.file.now a.at c.loop-j.j c.symbol_count-n.ensures.0 c.symbols_from-base.ensures.0 c.u16_at.ensures.0 (omega arith) in
-    search rules
-
-pub meet_name-requires : goal.meet_name-requires
-meet_name-requires c =
-    let a = c.args in
-    let h = here-symbol a.file.now a.at c.loop-j.j c.symbol_count-n.ensures.0 c.symbols_from-base.ensures.0 c.u16_at.ensures.0 (omega arith) in
-    search rules
-
-pub returns-in-None : goal.returns-in-None
-returns-in-None c =
+pub returns-in_default : goal.returns-in_default
+returns-in_default c =
     let whole = raw-lists c.args.file.now c.args.symbols.now c.args.at
     (let a = c.args in
     let h = here-symbol a.file.now a.at c.loop-j.j c.symbol_count-n.ensures.0 c.symbols_from-base.ensures.0 c.u16_at.ensures.0 (omega arith) in
-    meets-stop c.loop-j.invariant h (sym c.in-None.is ∙ met-spelled a.file.now a.symbols.now c.u16_at.result _ _ _ c.meet_name.ensures c.name-name.ensures c.entry.ensures)) in record { bytes = whole.0; lists = whole.1 }
+    meets-stop c.loop-j.invariant h (sym c.in_default.is ∙ met-spelled a.file.now a.symbols.now c.u16_at.result _ _ _ c.meet_name.ensures c.name-name.ensures c.entry.ensures)) in record { bytes = whole.0; lists = whole.1 }
 
 pub loop-j-preserved : goal.loop-j-preserved
 loop-j-preserved c =

@@ -1,5 +1,4 @@
 -- `packed::compare::raw_eq` meets its contract: the symbols are met one after another (`Meets`), and at the end nothing is left.
-use Prim.Native.Nat.{◌-◌}
 use Rattle.frames.specs.Layout.{symbols_at}
 use Rattle.packed.proofs.Comparing.{Meets}
 use Rattle.packed.specs.Pool.{spelled}
@@ -7,6 +6,3 @@ use Rattle.packed.proofs.compare.raw_eq.Given as goal
 
 abbrev pub invariant-loop-j : goal.invariant-loop-j
 invariant-loop-j l = Meets (spelled l.file l.symbols) (symbols_at l.file l.at) l.pool l.from l.to l.d l.j
-
-abbrev pub decreases-loop-j : goal.decreases-loop-j
-decreases-loop-j l = l.n - l.j

@@ -1,6 +1,5 @@
 -- `packed::images::do_substitute_vars` meets its contract: what was gathered and what the rest has is what all have (`GatheredTo`).
 use Rattle.packed.proofs.Lists.{gathers-lists}
-use Prim.Native.Nat.{◌-◌}
 use Rattle.frames.specs.Layout.{symbols_at}
 use Rattle.packed.proofs.Imaging.{gathered-done, gathered-more, gathered_none}
 use Rattle.packed.proofs.Symbols.{here-symbol, symbols-length}

@@ -1,7 +1,9 @@
--- `packed::images::image_set` meets its contract: the four words that were read.
+-- `packed::images::image_set` meets its contract: the four words that were read (`four-words`).
+use mathlib.Core.Path.{◌∙◌}
+use Rattle.bitset.proofs.Laws.{four-words}
 use Rattle.packed.specs.Images.{set_of}
 use Rattle.packed.proofs.images.image_set.Goals as goal
 
 pub returns : goal.returns
 unfolding set_of
-returns c = cc
+returns c = c.from_table.ensures ∙ four-words _ _

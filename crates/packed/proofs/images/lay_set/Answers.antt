@@ -3,4 +3,4 @@ use Rattle.packed.proofs.Imaging.{stored-by}
 use Rattle.packed.proofs.images.lay_set.Goals as goal
 
 pub returns : goal.returns
-returns c = let a = c.args in stored-by a.sets.now a.s.0 a.vars.words c.lay_word.ensures c.lay_word-2.ensures c.lay_word-3.ensures c.lay_word-4.ensures
+returns c = let a = c.args in stored-by a.sets.now a.s.0 a.vars.words c.lay.ensures c.lay-2.ensures c.lay-3.ensures c.lay-4.ensures

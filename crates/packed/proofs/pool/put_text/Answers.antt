@@ -1,5 +1,4 @@
 -- `packed::pool::put_text` meets its contract: after i bytes the pool has the first i bytes of the text (`Copied`).
-use Prim.Native.Nat.{◌-◌}
 use Rattle.packed.proofs.Copies.{copied_all, copied-length, copied_more, copied_none}
 use native.Mathlib.Omega.{arith}
 use Rattle.packed.proofs.pool.put_text.Goals as goal
@@ -11,10 +10,7 @@ pub bounds-pool-at : goal.bounds-pool-at
 bounds-pool-at c = let v = c.loop-i.invariant in omega (arith, copied-length v, v.fits)
 
 pub loop-i-preserved : goal.loop-i-preserved
-loop-i-preserved c = copied_more c.loop-i.invariant _ c.loop-i-test.true (cc)
-
-pub shape_of-pool : goal.shape_of-pool
-shape_of-pool c = copied-length c.loop-i.invariant
+loop-i-preserved c = copied_more c.loop-i.invariant _ (omega arith) (cc)
 
 pub returns : goal.returns
-returns c = copied_all c.loop-i.invariant c.loop-i-test.false
+returns c = copied_all c.loop-i.invariant (omega arith)

@@ -1,11 +1,6 @@
 -- `packed::pool::put_text` meets its contract: after i bytes the pool has the first i bytes of the text (`Copied`).
-use Prim.Native.Nat.{◌-◌}
 use Rattle.packed.proofs.Copies.{Copied}
-use lib.ListN.{length}
 use Rattle.packed.proofs.pool.put_text.Given as goal
 
 abbrev pub invariant-loop-i : goal.invariant-loop-i
 invariant-loop-i l = Copied l.text l.at l.initial.pool l.i l.pool
-
-abbrev pub decreases-loop-i : goal.decreases-loop-i
-decreases-loop-i l = length l.text - l.i

@@ -1,6 +1,6 @@
 -- `packed::substitute::do_substitute` meets its contract: after i symbols the pool has the pieces of those before the i-th (`Joins`); writing them leaves the images alone (`piece-kept`).
 use Rattle.packed.proofs.Lists.{substitutes-lists}
-use Prim.Native.Nat.{◌-◌, ◌<◌}
+use Prim.Native.Nat.{◌<◌}
 use Rattle.frames.specs.Layout.{symbols_at}
 use Rattle.packed.proofs.Joining.{joins-done, joins-full, joins-length, joins-more, joins-none}
 use Rattle.packed.proofs.Pieces.{piece-kept}
@@ -8,7 +8,6 @@ use Rattle.packed.proofs.Symbols.{here-symbol, imaged-one, symbols-length}
 use Rattle.frames.proofs.Loops.{here-get_or}
 use Rattle.packed.specs.Pool.{piece}
 use lib.ListN.{length}
-use mathlib.Core.Path.{◌∙◌}
 use native.Mathlib.Omega.{arith}
 use Rattle.packed.proofs.substitute.do_substitute.Goals as goal
 
@@ -28,18 +27,6 @@ add_piece-requires c =
     let size = joins-length v in
     let ends = v.ends in
     record { used_le_limit = (v.room, omega arith); imaged = imaged-one c.requires.imaged stands v.low _ (omega arith) }
-
-pub shape_of-pool-in_err-end : goal.shape_of-pool-in_err-end
-shape_of-pool-in_err-end c =
-    let a = c.args in
-    let i = c.loop-i.i in
-    let v = c.loop-i.invariant in
-    let n = symbols-length a.file.now a.at in
-    let count = c.symbol_count-n.ensures.0 in
-    let l : i < length (symbols_at a.file.now a.at) = omega arith in
-    let stands = here-symbol a.file.now a.at i count c.symbols_from-base.ensures.0 c.u16_at.ensures.0 c.loop-i-test.true in
-    let here = here-get_or stands 0 in
-    c.add_piece.ensures.sized ∙ joins-length v
 
 pub returns-in_err-end : goal.returns-in_err-end
 returns-in_err-end c =
@@ -70,9 +57,6 @@ loop-i-preserved c =
     let im = imaged-one c.requires.imaged stands v.low a.used (omega arith) in
     let kept = piece-kept a.file.now a.symbols.now a.froms.now a.tos.now _ a.pool.now _ a.used _ im (omega arith) v.is in
     joins-more v l here kept (rw c.in_ok-end.was at c.add_piece.ensures)
-
-pub shape_of-pool : goal.shape_of-pool
-shape_of-pool c = joins-length c.loop-i.invariant
 
 pub returns : goal.returns
 returns c =

@@ -1,27 +1,18 @@
 -- `packed::substitute::do_substitute_raw` meets its contract: after i symbols the pool has the names of those before the i-th (`Joins`).
 use Rattle.packed.proofs.Lists.{spells-lists}
-use Prim.Native.Nat.{◌-◌, ◌<◌}
+use Prim.Native.Nat.{◌<◌}
 use Rattle.frames.specs.Layout.{symbols_at}
-use Rattle.packed.proofs.Joining.{joins-done, joins-full, joins-length, joins-more, joins-none}
+use Rattle.packed.proofs.Joining.{joins-done, joins-full, joins-more, joins-none}
 use Rattle.packed.proofs.Symbols.{here-symbol, symbols-length}
 use Rattle.frames.proofs.Loops.{here-get_or}
 use Rattle.packed.specs.Pool.{spelled}
 use lib.ListN.{length}
-use mathlib.Core.Path.{◌∙◌, refl}
+use mathlib.Core.Path.{refl}
 use native.Mathlib.Omega.{arith}
 use Rattle.packed.proofs.substitute.do_substitute_raw.Goals as goal
 
 pub loop-i-init : goal.loop-i-init
 loop-i-init c = let a = c.args in joins-none (spelled a.file.now a.symbols.now) (symbols_at a.file.now a.at) a.pool.now (omega arith) (omega arith)
-
-pub add_symbol-requires : goal.add_symbol-requires
-add_symbol-requires c =
-    let v = c.loop-i.invariant in
-    let size = joins-length v in
-    (v.room, omega arith)
-
-pub shape_of-pool-in_err-end : goal.shape_of-pool-in_err-end
-shape_of-pool-in_err-end c = c.add_symbol.ensures.sized ∙ joins-length c.loop-i.invariant
 
 pub returns-in_err-end : goal.returns-in_err-end
 returns-in_err-end c =
@@ -48,9 +39,6 @@ loop-i-preserved c =
     let stands = here-symbol a.file.now a.at i count c.symbols_from-base.ensures.0 c.u16_at.ensures.0 c.loop-i-test.true in
     let here = here-get_or stands 0 in
     joins-more v l here refl (rw c.in_ok-end.was at c.add_symbol.ensures)
-
-pub shape_of-pool : goal.shape_of-pool
-shape_of-pool c = joins-length c.loop-i.invariant
 
 pub returns : goal.returns
 returns c =

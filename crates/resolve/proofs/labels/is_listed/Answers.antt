@@ -1,23 +1,16 @@
--- `resolve::labels::is_listed` meets its contract: none so far is the one (`AnySoFar`).
-use Prim.Native.Nat.{◌-◌}
-use Rattle.frames.proofs.Chains.{equal-yes, equal-no}
-use Rattle.frames.proofs.Loops.{any_none, any-more, any-stop, any-done, here-list}
+-- `resolve::labels::is_listed` meets its contract: the chain asks each listed hypothesis, by its index (`any-indexed`).
+use mathlib.Core.Path.{◌∙◌, refl}
+use Rattle.std.proofs.Common.{rules, tests, length, get_or, arith}
+use Rattle.std.proofs.lemmas.Iterator.{YieldsList-from_range}
+use Rattle.std.proofs.lemmas.Iterator.Search.{any_from_yields_List}
+use Rattle.frames.proofs.Words.{any-indexed}
 use Rattle.frames.specs.Database.{statement_at}
 use Rattle.frames.specs.Logic.{equal}
 use Rattle.machine.specs.Ground.{among}
-use native.Mathlib.Omega.{arith}
 use Rattle.resolve.proofs.labels.is_listed.Goals as goal
 
-pub loop-i-init : goal.loop-i-init
-loop-i-init c = let a = c.args in any_none (equal a.h.0) (statement_at a.file.now a.at).hyps
-
-pub returns-then-wanted-listed : goal.returns-then-wanted-listed
-unfolding among
-returns-then-wanted-listed c = let a = c.args in let n = c.hypotheses-n.ensures.0 in any-stop c.loop-i.invariant (here-list (statement_at a.file.now a.at).hyps c.loop-i.i 0 (omega arith)) (equal-yes (omega (arith, c.hypothesis-listed.ensures)))
-
-pub loop-i-preserved : goal.loop-i-preserved
-loop-i-preserved c = let a = c.args in let n = c.hypotheses-n.ensures.0 in any-more c.loop-i.invariant (here-list (statement_at a.file.now a.at).hyps c.loop-i.i 0 (omega arith)) (equal-no (λ e. omega (arith, c.hypothesis-listed.ensures)))
-
 pub returns : goal.returns
-unfolding among
-returns c = let n = c.hypotheses-n.ensures.0 in any-done c.loop-i.invariant (omega arith)
+unfolding among equal
+returns c =
+    let hs = (statement_at c.args.file.now c.args.at).hyps in
+    any_from_yields_List (λ i. equal c.args.h.0 (get_or hs i 0)) _ _ c.any.result c.any.ensures.ran (YieldsList-from_range 0 c.hypotheses.result (length hs) refl (omega (arith, c.hypotheses.ensures.0))) (λ x b q k. search (rules, tests, k)) ∙ any-indexed (equal c.args.h.0) hs 0

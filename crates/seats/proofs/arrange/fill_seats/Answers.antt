@@ -1,5 +1,4 @@
 -- `seats::arrange::fill_seats` meets its contract: the seats so far are filled (`FillingAll`).
-use Prim.Native.Nat.{◌-◌}
 use lib.ListN.{length-set}
 use Rattle.seats.proofs.Marking.{labels_length, here_label}
 use Rattle.seats.proofs.Seating.{fill_none, fill_more, fill_done}

@@ -2,7 +2,6 @@
 use lib.ListN.{length-set}
 use Rattle.seats.proofs.Seating.{order-none, order-more, order-done}
 use native.Mathlib.Omega.{arith}
-use Prim.Native.Nat.{◌-◌}
 use Rattle.seats.proofs.arrange.seat_in_order.Goals as goal
 
 pub loop-j-init : goal.loop-j-init

@@ -1,6 +1,5 @@
 -- `seats::marks::check_marks` meets its contract: the rows so far passed (`Judging`).
 use Rattle.std.proofs.lemmas.Result.{err_from_is_err_and}
-use Prim.Native.Nat.{◌-◌}
 use Rattle.seats.proofs.Checking.{judging-none, judging-more, judging-stop, judging-done}
 use native.Mathlib.Omega.{arith}
 use Rattle.seats.proofs.marks.check_marks.Goals as goal

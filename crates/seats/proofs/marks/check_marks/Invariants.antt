@@ -1,5 +1,4 @@
 -- `seats::marks::check_marks` meets its contract: the rows so far passed (`Judging`).
-use Prim.Native.Nat.{◌-◌}
 use Rattle.seats.specs.Marks.{labels_at}
 use Rattle.seats.proofs.Checking.{Judging}
 use Rattle.seats.proofs.marks.check_marks.Given as goal

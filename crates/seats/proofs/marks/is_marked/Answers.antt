@@ -9,8 +9,8 @@ use Rattle.seats.proofs.marks.is_marked.Goals as goal
 
 pub returns-then-tag-eq0 : goal.returns-then-tag-eq0
 unfolding word
-returns-then-tag-eq0 c = sym (marked-none c.args.label.now (mark-none c.args.text.now _ _ (sym c.word_at-tag.ensures ∙ c.if-tag-eq0.true)))
+returns-then-tag-eq0 c = sym (marked-none c.args.label.now (mark-none c.args.text.now _ _ (sym c.entry_or-tag.ensures ∙ c.if-tag-eq0.true)))
 
 pub returns : goal.returns
 unfolding word
-returns c = c.same_bytes.ensures ∙ (ap (λ (s : List ℕ). same s c.args.label.now) c.span.ensures ∙ sym (marked-some c.args.label.now (mark-read c.args.text.now c.word_at-tag.ensures c.word_at-end.ensures c.if-tag-eq0.false)))
+returns c = c.same_bytes.ensures ∙ (ap (λ (s : List ℕ). same s c.args.label.now) c.span.ensures ∙ sym (marked-some c.args.label.now (mark-read c.args.text.now c.entry_or-tag.ensures c.entry_or-end.ensures c.if-tag-eq0.false)))

@@ -1,22 +1,20 @@
--- `seats::marks::names_hypothesis` meets its contract: no label so far is the mark (`AnySoFar`).
-use Prim.Native.Nat.{◌-◌}
-use mathlib.Core.Path.{sym, ◌∙◌}
-use Rattle.frames.proofs.Loops.{any_none, any-more, any-stop, any-done}
-use Rattle.machine.specs.Apply.{names}
-use Rattle.seats.proofs.Marking.{here_label, labels_length}
-use native.Mathlib.Omega.{arith}
+-- `seats::marks::names_hypothesis` meets its contract: a label of the list is the mark, or none is (`names-told`).
+use mathlib.Core.Path.{◌≡◌, refl}
+use mathlib.Core.Bool.{true, false}
+use lib.ListN.{get_or}
+use Rattle.std.proofs.Common.{rules}
+use Rattle.std.proofs.lemmas.Iterator.{cases_from_any, YieldsList-from_range}
+use Rattle.frames.specs.Logic.{same}
+use Rattle.frames.specs.Database.{statement_at}
+use Rattle.seats.proofs.Marking.{names-told}
 use Rattle.seats.proofs.marks.names_hypothesis.Goals as goal
 
-pub loop-i-init : goal.loop-i-init
-loop-i-init c = (omega arith, any_none _ _)
-
-pub returns-then-same_bytes : goal.returns-then-same_bytes
-unfolding names
-returns-then-same_bytes c = any-stop c.loop-i.invariant.1 (here_label _ _ _ _ (omega arith) c.hypothesis_offset-o.ensures c.label.ensures) (sym c.same_bytes.ensures ∙ c.if-same_bytes.true)
-
-pub loop-i-preserved : goal.loop-i-preserved
-loop-i-preserved c = (omega arith, any-more c.loop-i.invariant.1 (here_label _ _ _ _ (omega arith) c.hypothesis_offset-o.ensures c.label.ensures) (sym c.same_bytes.ensures ∙ c.if-same_bytes.false))
-
 pub returns : goal.returns
-unfolding names
-returns c = any-done c.loop-i.invariant.1 (omega (arith, labels_length c.args.file.now c.args.statements.now c.args.at))
+returns c =
+    let a = c.args in
+    names-told a.file.now a.statements.now a.at a.mark.now _ c.hypotheses.ensures.0 _
+    (cases_from_any _ _ _ (λ i. same a.mark.now (statement_at a.file.now (get_or a.statements.now (get_or (statement_at a.file.now a.at).hyps i 0) 0)).label ≡ true)
+    (λ i. same a.mark.now (statement_at a.file.now (get_or a.statements.now (get_or (statement_at a.file.now a.at).hyps i 0) 0)).label ≡ false)
+    c.any.ensures.ran (YieldsList-from_range 0 _ _ refl refl)
+    (λ x q k. search rules)
+    (λ x q k. (search rules, search rules)))

@@ -26,7 +26,7 @@ pub loop-end-smaller : goal.loop-end-smaller
 loop-end-smaller c = omega (arith, c.put_label-end.ensures.begins, c.loop-end-test.true)
 
 pub loop-end-preserved : goal.loop-end-preserved
-loop-end-preserved c = going_more c.loop-end.invariant {left = c.loop-end.left - 1} (omega (arith, c.if-left-eq0.false)) c.word_at-word.ensures c.label_of.ensures c.pending-1.given c.out-1.given c.put_label-end.ensures c.push_words-left.ensures
+loop-end-preserved c = going_more c.loop-end.invariant {left = c.loop-end.left - 1} (omega (arith, c.if-left-eq0.false)) c.entry_or-word.ensures c.label_of.ensures c.pending-1.given c.out-1.given c.put_label-end.ensures c.push_words-left.ensures
 
 pub shape_of-pending : goal.shape_of-pending
 shape_of-pending c = c.loop-end.invariant.table_sized

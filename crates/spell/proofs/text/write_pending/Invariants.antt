@@ -1,5 +1,4 @@
 -- `spell::text::write_pending` meets its contract: what remains with what is written is the same whole after each turn (`Going`).
-use Prim.Native.Nat.{◌-◌}
 use Rattle.spell.proofs.Writing.{Going}
 use Rattle.spell.proofs.text.write_pending.Given as goal
 

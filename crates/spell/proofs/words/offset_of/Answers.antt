@@ -10,4 +10,4 @@ returns-then-word-eq0 c = c.as_offset.ensures ∙ ap as_offset (pick_first _ (eq
 
 pub returns : goal.returns
 unfolding offset_of
-returns c = c.as_offset-2.ensures ∙ ap as_offset (c.word_at.ensures ∙ pick_second _ (equal-no c.if-word-eq0.false) refl)
+returns c = c.as_offset-2.ensures ∙ ap as_offset (c.entry_or.ensures ∙ pick_second _ (equal-no c.if-word-eq0.false) refl)

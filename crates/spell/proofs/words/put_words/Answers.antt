@@ -1,6 +1,5 @@
 -- `spell::words::put_words` meets its contract: after i words the table has the first i of them (`Copied`).
 use mathlib.Core.Path.{sym, ◌∙◌}
-use Prim.Native.Nat.{◌-◌}
 use Rattle.packed.proofs.Copies.{copied_all, copied-length, copied_more, copied_none}
 use Rattle.spell.specs.Words.{entries_from}
 use Rattle.spell.proofs.Opening.{entries-length, entries_at}
@@ -14,7 +13,7 @@ pub bounds-table-at : goal.bounds-table-at
 bounds-table-at c = let v = c.loop-i.invariant in omega (arith, copied-length v, c.requires.1)
 
 pub loop-i-preserved : goal.loop-i-preserved
-loop-i-preserved c = let a = c.args in copied_more c.loop-i.invariant _ (omega (arith, entries-length a.tree.now a.from a.n)) (c.word_at.ensures ∙ sym (entries_at a.tree.now a.from a.n c.loop-i.i c.loop-i-test.true))
+loop-i-preserved c = let a = c.args in copied_more c.loop-i.invariant _ (omega (arith, entries-length a.tree.now a.from a.n)) (c.entry_or.ensures ∙ sym (entries_at a.tree.now a.from a.n c.loop-i.i c.loop-i-test.true))
 
 pub shape_of-table : goal.shape_of-table
 shape_of-table c = copied-length c.loop-i.invariant

@@ -1,8 +1,0 @@
--- `packed::images::lay_word` meets its contract: a store inside the table; past its end nothing is stored, and `set` changes nothing either.
-use lib.Seq.{set_out}
-use mathlib.Core.Path.{sym}
-use native.Mathlib.Omega.{arith}
-use Rattle.packed.proofs.images.lay_word.Goals as goal
-
-pub returns-else-i-table : goal.returns-else-i-table
-returns-else-i-table c = let a = c.args in sym (set_out a.table.now a.i a.word (omega arith))

@@ -1,6 +1,0 @@
--- `spell::words::word_at` meets its contract.
-use Rattle.frames.proofs.Loops.{get_or_past}
-use Rattle.spell.proofs.words.word_at.Goals as goal
-
-pub returns-else-i-table : goal.returns-else-i-table
-returns-else-i-table c = get_or_past c.args.table.now c.args.i 0 c.if-i-table.false
