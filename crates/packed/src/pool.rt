@@ -5,8 +5,8 @@ ghost use Rattle.packed.specs.Packing.{ended};
 ghost use Rattle.packed.specs.Pool.{written, range, Adds, Untouched};
 
 // Puts a text into the pool at `at`. (A loop: the texts are names of few bytes, which a call of `copy_from_slice` makes slower: 1,000 symbols of
-// 3 bytes by names went from 493 to 380 million bytes a second, tests/bench/packed.sh.)
-fn put_text(pool: &mut [u8], at: usize, text: &[u8])
+// 3 bytes by names went from 493 to 380 million bytes a second, tests/bench/packed.sh. And that call needs `memmove` from outside where C links the archive.)
+pub fn put_text(pool: &mut [u8], at: usize, text: &[u8])
     requires { at + length text.now ≤ length pool.old }
     ensures { pool.new ≡ written text.now at pool.old }
 {

@@ -8,6 +8,7 @@ ghost use Rattle.spell.specs.Text.{Puts, WritesPending, WritesText};
 use crate::words::{offset_of, push_words};
 use frames::fields;
 use frames::refer::entry_or;
+use packed::pool::put_text;
 
 // The label of the statement that a word names.
 fn label_of<'a>(file: &'a [u8], tree: &[u64], word: u64) -> &'a [u8]
@@ -38,7 +39,7 @@ fn put_label(out: &mut [u8], end: usize, label: &[u8]) -> usize
     }
     let at = end - n - 1;
     put_space(out, at);
-    out[at..at + n].copy_from_slice(label);
+    put_text(out, at, label);
     at
 }
 
