@@ -69,7 +69,7 @@ ahead-small {ws = ws} n w = lt_of_le_of_lt (shr_le (get_or ws (n / 64) 0) (n % 6
 
 -- where something lies ahead it has a lowest bit
 ahead-lowest : {bits : ℕ} {ws : List ℕ} (n : ℕ) → Words bits ws → (ahead ws n ≡ 0 → ⊥) → bit (ahead ws n) (count_trailing_zeros 64 (ahead ws n)) ≡ true
-ahead-lowest {ws = ws} n w f = lowest-bit (ahead ws n) (omega arith) (ahead-small n w)
+ahead-lowest {ws = ws} n w f = lowest-bit 64 (ahead ws n) (omega arith) (ahead-small n w)
 
 -- where something lies ahead, its lowest bit says a member
 pub coming-member : {bits : ℕ} {ws : List ℕ} (n : ℕ) → Words bits ws → (ahead ws n ≡ 0 → ⊥) → member ws (coming ws n) ≡ true
@@ -87,5 +87,5 @@ ahead-some {ws = ws} n w f =
     let l = member_below ws (coming ws n) m in
     let t = ahead_within n w (ahead-lowest n w f) in
     passed ws (count_trailing_zeros 64 (ahead ws n)) n (omega arith)
-    (λ j h. ahead-bit ws n j (omega arith) ∙ below-lowest (ahead ws n) j (omega arith) (ahead-small n w) h)
+    (λ j h. ahead-bit ws n j (omega arith) ∙ below-lowest 64 (ahead ws n) j h)
     ∙ from_member ws (coming ws n) l m

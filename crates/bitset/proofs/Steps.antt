@@ -1,7 +1,8 @@
--- What a call of an iteration's `next` gives and leaves, by `first_of` and `rest_of`, from what the trait's `next_gives` says of it.
-use mathlib.Core.Path.{◌≡◌, sym, ap, ◌∙◌}
+-- How a step of an iteration takes apart what was left, by `first_of` and `rest_of`, both ways; and what a call of `next` gives and leaves, from what the trait's
+-- `next_gives` says of it.
+use mathlib.Core.Path.{◌≡◌, refl, sym, ap, ◌∙◌}
 use mathlib.Core.List.{List, [], ◌∷◌}
-use Prim.Native.Nat.{ℕ, ◌-◌, ◌≤◌}
+use Prim.Native.Nat.{ℕ, ◌-◌, ◌≤◌, ◌<◌}
 use native.Mathlib.Omega.{arith}
 use lib.ListN.{length}
 use Rattle.std.specs.Prelude.{Option, None, Some, MatchOption}
@@ -10,6 +11,32 @@ use Rattle.bitset.specs.declared.BitsetIter.{BitsetIter}
 use Rattle.bitset.specs.Sets.{size}
 use Rattle.bitset.specs.Iter.{left, first_of, rest_of}
 use Rattle.bitset.proofs.Listed.{from_few}
+
+-- a step that gives the first of what is left
+pub step_gives : (xs ys : List ℕ) (n : ℕ) → xs ≡ n ∷ ys → (Some n ≡ first_of xs) × (ys ≡ rest_of xs)
+unfolding first_of rest_of
+step_gives xs ys n e = (sym (ap first_of e), sym (ap rest_of e))
+
+-- a step where nothing is left
+pub step-ends : (xs ys : List ℕ) → xs ≡ [] → ys ≡ [] → (None ≡ first_of xs) × (ys ≡ rest_of xs)
+unfolding first_of rest_of
+step-ends xs ys e f = (sym (ap first_of e), f ∙ sym (ap rest_of e))
+
+-- a step that gave n: n was the first of what was left
+pub step-at : (xs : List ℕ) (n : ℕ) → Some n ≡ first_of xs → xs ≡ n ∷ rest_of xs
+unfolding first_of rest_of
+step-at [] n e = let z : ◌≡◌ {A = ℕ} 0 1 = cc in absurd (omega arith)
+step-at (x ∷ xs) n e = cc
+
+-- a step that gave nothing: nothing was left
+pub step-over : (xs : List ℕ) → None ≡ first_of xs → xs ≡ []
+unfolding first_of
+step-over [] e = refl
+step-over (x ∷ xs) e = let z : ◌≡◌ {A = ℕ} 0 1 = cc in absurd (omega arith)
+
+-- a step that gave n leaves less
+pub step_less : (xs : List ℕ) (n : ℕ) → Some n ≡ first_of xs → length (rest_of xs) < length xs
+step_less xs n e = let l = ap length (step-at xs n e) in omega arith
 
 step-told : (xs ys : List ℕ) (r : Option ℕ) → MatchOption r ((xs ≡ []) × (ys ≡ [])) (λ n. xs ≡ n ∷ ys) → (r ≡ first_of xs) × (ys ≡ rest_of xs)
 unfolding first_of rest_of

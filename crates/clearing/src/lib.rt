@@ -7,7 +7,7 @@ ghost use Rattle.std.specs.Prelude.{◌≡◌, length, replicate};
 pub fn clear<T: Copy>(lent: &mut [T], zero: T)
     ensures { lent.new ≡ replicate (length lent.old) zero }
 {
-    for x in lent.iter_mut() {
-        *x = zero;
+    for i in 0..lent.len() {
+        lent[i] = zero;
     }
 }

@@ -14,7 +14,7 @@ use Rattle.frames.proofs.Chains.{equal-yes, equal-true, equal-eqb}
 use Rattle.frames.proofs.Tells.{both_true}
 use Rattle.bitset.specs.Sets.{bit, member, size, insert}
 use Rattle.bitset.proofs.Bits.{zero_bit}
-use Rattle.bitset.proofs.Laws.{insert-member, insert-size}
+use Rattle.bitset.proofs.Laws.{insert-member, insert-size, insert-refused}
 use Rattle.machine.specs.Apply.{is_pair}
 use Rattle.machine.specs.Run.{members}
 use Rattle.packed.specs.Images.{set_of, number_in}
@@ -135,3 +135,8 @@ fills-next qs i h e before one =
 pub fills-done : {numbers table table' : List ℕ} (qs : List (ℕ × ℕ)) (i : ℕ) → length qs ≤ i → Fills numbers (take i qs) table table'
     → Fills numbers qs table table'
 fills-done qs i h f = rw (take_all i qs h) at f
+
+-- past the end of the table nothing is stored
+pub entry_past : (table : List ℕ) (a b : ℕ) → length table ≤ 4 * a + b / 64 → table ≡ insert table (256 * a + b)
+unfolding size
+entry_past table a b h = sym (insert-refused table (256 * a + b) (omega arith))

@@ -148,6 +148,16 @@ module _ (ms sets table : List ℕ) (l r : ℕ) where
       tried true = refl
       tried false = refl
 
+  pub pair-both : {s t answer : Bool} {x y : List ℕ} → x ≡ set_of sets l → y ≡ set_of sets r → answer ≡ apart table (bits.members x) (bits.members y)
+      → answer ≡ false → s ≡ among ms l → s ≡ true → t ≡ among ms r → t ≡ true → false ≡ keeps_at ms sets table (l, r)
+  unfolding keeps_at
+  pair-both ex ey e fails first holds second also =
+      pick_first true (sym (both-second (sym first ∙ holds) (sym (sym second ∙ also)))) (sym fails ∙ images ex ey e)
+
+  pub pair-not-right : {s t : Bool} → s ≡ among ms l → s ≡ true → t ≡ among ms r → t ≡ false → true ≡ keeps_at ms sets table (l, r)
+  unfolding keeps_at
+  pair-not-right first holds second fails = pick_second _ (sym (both-second (sym first ∙ holds) (sym (sym second ∙ fails)))) refl
+
   pub pair-second : {s t answer : Bool} {x y : List ℕ} → x ≡ set_of sets l → y ≡ set_of sets r → answer ≡ apart table (bits.members x) (bits.members y)
       → answer ≡ false → s ≡ among ms l → s ≡ true → t ≡ among ms r → not t ≡ keeps_at ms sets table (l, r)
   unfolding keeps_at

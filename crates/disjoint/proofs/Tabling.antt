@@ -2,7 +2,7 @@
 use Prim.Native.Nat.{ℕ, zero, suc, ◌+◌, ◌-◌, ◌*◌, ◌/◌, ◌%◌, ◌^◌, ◌≤◌, ◌<◌, min}
 use mathlib.Core.Path.{◌≡◌, refl, sym, ap, ap₂, ◌∙◌}
 use mathlib.Core.List.Memᴰ
-use mathlib.Core.List.{List, ◌++◌}
+use mathlib.Core.List.{List, [], ◌∷◌, ◌++◌}
 use native.Mathlib.Omega.{arith}
 use native.Mathlib.Decide.{ℕ_discrete}
 use lib.ListN.{length, get_or, get_or-eq_default}
@@ -68,6 +68,12 @@ tabled-disjoint {pairs} {vs} u v t known m n few =
     (λ q k. let l = known _ (pair_left k) in let r = known _ (pair-right k) in
     rw (number-equal vs u q.0 m l, number-equal vs v q.1 n r, number-equal vs u q.1 m r, number-equal vs v q.0 n l) refl)
 
+-- a row by its four words
+pub row_words : (table : List ℕ) (n : ℕ) {a b c d : ℕ} → a ≡ get_or table (4 * n + 0) 0 → b ≡ get_or table (4 * n + 1) 0 → c ≡ get_or table (4 * n + 2) 0
+    → d ≡ get_or table (4 * n + 3) 0 → a ∷ b ∷ c ∷ d ∷ [] ≡ set_of table n
+unfolding set_of
+row_words table n ea eb ec ed = let first : 4 * n + 0 ≡ 4 * n = omega arith in cc
+
 -- a row by the words from its place on, or from a place past the table's end where its own is past that too
 place_word : (table : List ℕ) (n at k : ℕ) → at ≡ min (n * 4) (2 ^ 64 - 1) → length table < 2 ^ 64 → get_or table (at + k) 0 ≡ get_or table (4 * n + k) 0
 place_word table n at k e h = told (ℕ_discrete at (4 * n))
@@ -76,9 +82,9 @@ place_word table n at k e h = told (ℕ_discrete at (4 * n))
     told (yes is) = ap (λ (i : ℕ). get_or table (i + k) 0) is
     told (no far) = get_or-eq_default table 0 (omega arith) ∙ sym (get_or-eq_default table 0 (omega arith))
 
-pub row_words : (table : List ℕ) (n at : ℕ) (words : List ℕ) → words ≡ words_at table at 4 → at ≡ min (n * 4) (2 ^ 64 - 1) → length table < 2 ^ 64 → words ≡ set_of table n
+pub row_words-at : (table : List ℕ) (n at : ℕ) (words : List ℕ) → words ≡ words_at table at 4 → at ≡ min (n * 4) (2 ^ 64 - 1) → length table < 2 ^ 64 → words ≡ set_of table n
 unfolding set_of
-row_words table n at words is e h =
+row_words-at table n at words is e h =
     let a = four-words table at in
     let b = place_word table n at 0 e h in
     let c = place_word table n at 1 e h in
@@ -87,3 +93,14 @@ row_words table n at words is e h =
     let none : at + 0 ≡ at = omega arith in
     let first : 4 * n + 0 ≡ 4 * n = omega arith in
     cc
+
+-- a row that begins past the table
+pub row-past : (table : List ℕ) (n at : ℕ) → length table ≤ at → at ≡ min (n * 4) (2 ^ 64 - 1) → length table < 2 ^ 64 → 0 ∷ 0 ∷ 0 ∷ 0 ∷ [] ≡ set_of table n
+row-past table n at past e h =
+    let a : get_or table at 0 ≡ 0 = get_or-eq_default table 0 past in
+    let b : get_or table (at + 1) 0 ≡ 0 = get_or-eq_default table 0 (omega arith) in
+    let c : get_or table (at + 2) 0 ≡ 0 = get_or-eq_default table 0 (omega arith) in
+    let d : get_or table (at + 3) 0 ≡ 0 = get_or-eq_default table 0 (omega arith) in
+    let words = four-words table at in
+    let zeros : 0 ∷ 0 ∷ 0 ∷ 0 ∷ [] ≡ words_at table at 4 = cc in
+    row_words-at table n at (0 ∷ 0 ∷ 0 ∷ 0 ∷ []) zeros e h

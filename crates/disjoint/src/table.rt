@@ -10,11 +10,20 @@ use bitset::Bitset;
 use frames::fields;
 use frames::refer::{Pair, entry};
 
+// A word of a row past the table: no number is in it, so that a variable without a row is disjoint from none.
+const NO_ROW: u64 = 0;
+
 // Row n of a table of sets. The place of a row past every table is the largest number, and so past the end too.
 pub fn row(table: &[u64], n: usize) -> Bitset
     ensures { result.words ≡ set_of table.now n }
 {
-    Bitset::from_table(table, n.saturating_mul(Bitset::WORDS))
+    let at = n.saturating_mul(Bitset::WORDS);
+    if table.len() <= at {
+        return Bitset {
+            words: [NO_ROW; Bitset::WORDS],
+        };
+    }
+    Bitset::from_table(table, at)
 }
 
 // Enters b into row a.

@@ -66,6 +66,9 @@ module _ {f syms : List ℕ} {at : ℕ} {row : Row} {pool : List ℕ} where
   pub holds_read : {answer : Bool} → ComparesRaw f syms at pool row.from row.to answer → HoldsClaim f syms at row pool answer
   holds_read c = record { compares = λ rises within. c }
 
+  pub holds-never : {answer : Bool} → (row.from ≤ row.to → row.to ≤ length pool → ⊥) → HoldsClaim f syms at row pool answer
+  holds-never n = record { compares = λ rises within. absurd (n rises within) }
+
   -- what the row stands for, against the claim
   claim-judged : {stmts vs : List ℕ} {p used : ℕ} (x : Proved) {answer : Passed} → Filed f syms stmts → Located f p at → used ≤ length pool
       → Means (database f) vs pool used row x.expression → IsClaim f syms at row pool answer → EndsAs (is_claim (expression_of (database f) p) x) answer

@@ -124,6 +124,11 @@ moved p e g = e ∙ ap p g
 pub told : {A B : Type 0} (p : A → B) {x y : A} {r b : B} → r ≡ p x → x ≡ y → r ≡ b → p y ≡ b
 told p e g h = sym (moved p e g) ∙ h
 
+-- row 5 on answers that are equal
+pub reference-same : {d d' k k' g g' v v' p p' r r' a a' : Bool} → d ≡ d' → k ≡ k' → g ≡ g' → v ≡ v' → p ≡ p' → r ≡ r' → a ≡ a'
+    → one_of (no d ∷ no k ∷ both g (no v) ∷ no p ∷ no r ∷ no a ∷ []) ≡ one_of (no d' ∷ no k' ∷ both g' (no v') ∷ no p' ∷ no r' ∷ no a' ∷ [])
+reference-same d k g v p r a = cc
+
 -- the refusals of a record, in their order
 pub unless-stop : {t : Bool} {why : Refusal} {x : Fault} (rest : Fault) → t ≡ true → x ≡ Some why → x ≡ unless t why rest
 unfolding unless

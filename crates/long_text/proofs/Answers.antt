@@ -1,4 +1,4 @@
--- What a caller learns from the answer: `Whole` means that the text fits and was written, `TooLong` that it does not fit and nothing was.
+-- What a caller learns from the answer: `Some` means that the text fits and was written, `None` that it does not fit and nothing was.
 use Rattle.std.proofs.Common.{Some, None}
 use Prim.Native.Nat.{ℕ}
 use mathlib.Core.Path.{◌≡◌, refl}

@@ -11,7 +11,7 @@ use Rattle.packed.proofs.Written.{written-length, written-before, range-written}
 use Rattle.packed.proofs.Copies.{range_at}
 use Rattle.packed.proofs.Imaging.{four-words}
 use Rattle.memory.specs.declared.table.Row.{Row}
-use Rattle.memory.specs.Table.{word, RowAt, row_words, with_row}
+use Rattle.memory.specs.Table.{word, SetAt, RowAt, row_words, with_row}
 
 -- four words that are the same make the same list
 words : {a b c d a' b' c' d' : ℕ} → a ≡ a' → b ≡ b' → c ≡ c' → d ≡ d' → a ∷ b ∷ c ∷ d ∷ [] ≡ a' ∷ b' ∷ c' ∷ d' ∷ []
@@ -20,7 +20,7 @@ words p q r s = cc
 -- a row that is read word by word
 pub row_read : (table : List ℕ) (k : ℕ) (row : Row) → row.head ≡ get_or table (10 * k) 0 → row.from ≡ get_or table (10 * k + 1) 0
     → row.to ≡ get_or table (10 * k + 2) 0 → row.tag ≡ get_or table (10 * k + 3) 0 → row.end ≡ get_or table (10 * k + 4) 0
-    → row.node ≡ get_or table (10 * k + 5) 0 → row.vars.words ≡ words_at table (10 * k + 6) 4 → RowAt table k row
+    → row.node ≡ get_or table (10 * k + 5) 0 → SetAt table (10 * k + 6) row.vars.words → RowAt table k row
 unfolding word
 row_read table k row h f t g e n s =
     record {
@@ -30,11 +30,17 @@ row_read table k row h f t g e n s =
       tag = g;
       end = e;
       node = n;
-      vars = s ∙ sets.four-words table (10 * k + 6) ∙ words refl (ap at-word (omega arith)) (ap at-word (omega arith)) (ap at-word (omega arith));
+      vars = s.is ∙ words refl (ap at-word (omega arith)) (ap at-word (omega arith)) (ap at-word (omega arith));
     }
   where
     at-word : ℕ → ℕ
     at-word i = get_or table i 0
+
+-- the same, its set taken from the table at once
+pub row_read-words : (table : List ℕ) (k : ℕ) (row : Row) → row.head ≡ get_or table (10 * k) 0 → row.from ≡ get_or table (10 * k + 1) 0
+    → row.to ≡ get_or table (10 * k + 2) 0 → row.tag ≡ get_or table (10 * k + 3) 0 → row.end ≡ get_or table (10 * k + 4) 0
+    → row.node ≡ get_or table (10 * k + 5) 0 → row.vars.words ≡ words_at table (10 * k + 6) 4 → RowAt table k row
+row_read-words table k row h f t g e n s = row_read table k row h f t g e n (record { is = s ∙ sets.four-words table (10 * k + 6) })
 
 -- a row is as long as ten words
 pub row-length : (row : Row) → length (row_words row) ≡ 10

@@ -7,6 +7,10 @@ use Rattle.memory.specs.declared.table.Row.{Row}
 unfoldable pub word : List ℕ → ℕ → ℕ → ℕ
 word table k j = get_or table (10 * k + j) 0
 
+-- the four words from i on
+pub record SetAt (table : List ℕ) (i : ℕ) (words : List ℕ) : Type 0 where
+  pub is : words ≡ get_or table i 0 ∷ get_or table (i + 1) 0 ∷ get_or table (i + 2) 0 ∷ get_or table (i + 3) 0 ∷ []
+
 -- row k of the table
 pub record RowAt (table : List ℕ) (k : ℕ) (row : Row) : Type 0 where
   pub head : row.head ≡ word table k 0

@@ -12,6 +12,7 @@ use Rattle.io.specs.Counts.{IsPrefixLen}
 use Rattle.frames.specs.Verdict.{verdict, laid, Checked, number_of, Verdict, Refused, Good}
 use Rattle.frames.specs.Database.{database, GoodFile}
 use Rattle.frames.specs.declared.Refusal.{Refusal}
+use Rattle.frames.specs.declared.TurnedAway.{TurnedAway}
 use Rattle.frames.proofs.Chains.{below-no, below-yes, pick_first, pick_second}
 use Rattle.frames.proofs.Tables.{laid-length}
 use Rattle.packed.specs.Pool.{written, Adds, Grown}
@@ -32,6 +33,13 @@ use Rattle.reply.proofs.Lengths.{answers-few, output-few}
 pub counted : (walked : Walked) → Counted walked (result_unwrap_or walked 0)
 counted (Ok n) = record { is = λ m e. let same : Ok n ≡ Ok m = e in cc }
 counted (Err away) = record { is = λ m e. let z : ◌≡◌ {A = ℕ} 0 1 = cc in absurd (omega arith) }
+
+-- the same by the case
+pub counted-some : {walked : Walked} {n : ℕ} → walked ≡ Ok n → Counted walked n
+counted-some {walked} {n} is = record { is = λ m e. let same : Ok n ≡ Ok m = sym is ∙ e in cc }
+
+pub counted_none : {walked : Walked} {away : TurnedAway} → walked ≡ Err away → Counted walked 0
+counted_none {walked} {away} is = record { is = λ m e. let z : ◌≡◌ {A = ℕ} 0 1 = cc in absurd (omega arith) }
 
 -- the lent buffers have the greatest sizes
 pub room-greatest : (pool stack places : List ℕ) → length pool ≡ 65536 → length stack ≡ 10240 → length places ≡ 40960 → room_in pool stack places ≡ greatest

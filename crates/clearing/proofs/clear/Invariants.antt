@@ -2,5 +2,5 @@
 use Rattle.std.proofs.Common.{◌≡◌, replicate, drop, ◌++◌}
 use Rattle.clearing.proofs.clear.Given as goal
 
-abbrev pub invariant-loop-x : goal.invariant-loop-x
-invariant-loop-x g l = l.lent ≡ replicate l.x-index l.zero ++ drop l.x-index l.initial.lent
+abbrev pub invariant-loop-i : goal.invariant-loop-i
+invariant-loop-i g l = l.lent ≡ replicate l.i l.zero ++ drop l.i l.initial.lent
