@@ -17,6 +17,11 @@ one-more {X} i z xs inside is =
     ∙ sym (append_assoc (replicate i z) (z ∷ []) (drop (suc i) xs))
     ∙ cc
 
+-- the same, stored at a place that is the i-th
+pub one-more-at : {X : Type 0} (i k : ℕ) (z : X) (xs : List X) {ys : List X} → i < length xs → ys ≡ replicate i z ++ drop i xs → k ≡ i
+    → set ys k z ≡ replicate (i + 1) z ++ drop (i + 1) xs
+one-more-at {X} i k z xs {ys} inside is e = ap (λ (j : ℕ). set ys j z) e ∙ one-more i z xs inside is
+
 -- after i elements it has i zeros and then what stood there
 pub record Cleared (xs : List ℕ) (i : ℕ) (ys : List ℕ) : Type 0 where
   pub few : i ≤ length xs

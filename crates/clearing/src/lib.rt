@@ -3,7 +3,7 @@
 
 ghost use Rattle.std.specs.Prelude.{◌≡◌, length, replicate};
 
-// Each element becomes `zero`.
+// Each element becomes `zero`. (Over the index and not `iter_mut`: so a must-fail edit can turn the place that is stored at, or where the loop begins, and nothing else.)
 pub fn clear<T: Copy>(lent: &mut [T], zero: T)
     ensures { lent.new ≡ replicate (length lent.old) zero }
 {

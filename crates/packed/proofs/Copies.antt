@@ -34,6 +34,10 @@ module _ {text : List ℕ} {at : ℕ} {pool : List ℕ} {i : ℕ} {pool' : List 
       let longer : take (i + 1) text ≡ take i text ++ (b ∷ []) = take-one-more text i l ∙ ap (λ (x : ℕ). take i text ++ (x ∷ [])) (sym e) in
       record { fits = c.fits; few = omega arith; is = cc }
 
+  -- the same, stored at a place that is the i-th of the text
+  pub copied_more-at : (b k : ℕ) → i < length text → b ≡ get_or text i 0 → k ≡ at + i → Copied text at pool (i + 1) (set pool' k b)
+  copied_more-at b k l e place = rw (sym (ap (λ (j : ℕ). set pool' j b) place)) at (copied_more b l e)
+
   pub copied_all : length text ≤ i → pool' ≡ written text at pool
   copied_all l = c.is ∙ ap (λ (t : List ℕ). written t at pool) (take_all i text l)
 

@@ -1,5 +1,5 @@
 -- `packed::pool::put_text` meets its contract: after i bytes the pool has the first i bytes of the text (`Copied`).
-use Rattle.packed.proofs.Copies.{copied_all, copied-length, copied_more, copied_none}
+use Rattle.packed.proofs.Copies.{copied_all, copied-length, copied_more-at, copied_none}
 use native.Mathlib.Omega.{arith}
 use Rattle.packed.proofs.pool.put_text.Goals as goal
 
@@ -10,7 +10,7 @@ pub bounds-pool-at : goal.bounds-pool-at
 bounds-pool-at c = let v = c.loop-i.invariant in omega (arith, copied-length v, v.fits)
 
 pub loop-i-preserved : goal.loop-i-preserved
-loop-i-preserved c = copied_more c.loop-i.invariant _ (omega arith) (cc)
+loop-i-preserved c = copied_more-at c.loop-i.invariant _ _ (omega arith) (cc) (omega arith)
 
 pub returns : goal.returns
 returns c = copied_all c.loop-i.invariant (omega arith)
